@@ -1,0 +1,4 @@
+pub mod Cause
+pub mod Memory
+pub mod Reading
+pub mod Writing

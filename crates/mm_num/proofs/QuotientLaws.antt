@@ -1,0 +1,46 @@
+-- The floor of a quotient is what it should be.
+use Rattle.std.specs.Prelude.{◌≡◌, ℕ, ◌+◌, ◌-◌, ◌*◌, ◌/◌, ◌%◌, ◌<◌, ◌≤◌, ℤ, pos, negsuc, ◌+ℤ◌, ◌-ℤ◌, ◌*ℤ◌, ◌≤ℤ◌, ◌<ℤ◌, neg_ℤ, unsigned_abs, refl}
+use Rattle.std.proofs.Common.{ap, sym, ◌∙◌, subst, arith}
+use Rattle.mm_num.proofs.Ring.{mul_neg}
+use Rattle.std.proofs.lemmas.Int.{ints}
+use Rattle.mm_num.specs.Quotient.{floor_by, floor_quotient, ceil_quotient, IsFloor, IsCeiling}
+
+-- d * (n / d) ≤ n < d * (n / d) + d
+pub quotient_below : (n d : ℕ) → 0 < d → d * (n / d) ≤ n
+quotient_below n d h = omega arith
+
+pub quotient_above : (n d : ℕ) → 0 < d → n < d * (n / d) + d
+quotient_above n d h = omega arith
+
+pub floor_below : (a : ℤ) (d : ℕ) → 0 < d → (pos d *ℤ floor_by a d) ≤ℤ a
+floor_below (pos n) d h = omega (arith, ints, quotient_below n d h)
+floor_below (negsuc n) d h = omega (arith, ints, quotient_above n d h)
+
+pub floor_above : (a : ℤ) (d : ℕ) → 0 < d → a <ℤ (pos d *ℤ floor_by a d +ℤ pos d)
+floor_above (pos n) d h = omega (arith, ints, quotient_above n d h)
+floor_above (negsuc n) d h = omega (arith, ints, quotient_below n d h)
+
+pub floor_small : (a : ℤ) (d m : ℕ) → 0 < d → unsigned_abs a < m → unsigned_abs (floor_by a d) < m
+floor_small (pos n) d m h s = grind arith
+floor_small (negsuc n) d m h s = grind arith
+
+-- a divisor of at least 1 is a natural number
+pub positive_is : (b : ℤ) → pos 1 ≤ℤ b → (pos (unsigned_abs b) ≡ b) × (0 < unsigned_abs b)
+positive_is (pos n) h = (refl, omega (arith, ints))
+positive_is (negsuc n) h = absurd (omega (arith, ints))
+
+pub floor_is : (a b q : ℤ) → pos 1 ≤ℤ b → q ≡ floor_quotient a b → IsFloor a b q
+floor_is a b q h e =
+    let p = positive_is b h in
+    let low : (pos (unsigned_abs b) *ℤ floor_by a (unsigned_abs b)) ≤ℤ a = floor_below a (unsigned_abs b) p.1 in
+    let high : a <ℤ (pos (unsigned_abs b) *ℤ floor_by a (unsigned_abs b) +ℤ pos (unsigned_abs b)) = floor_above a (unsigned_abs b) p.1 in
+    record {
+      below = rw (e) (subst (λ (d : ℤ). (d *ℤ floor_by a (unsigned_abs b)) ≤ℤ a) p.0 low);
+      above = rw (e) (subst (λ (d : ℤ). a <ℤ (d *ℤ floor_by a (unsigned_abs b) +ℤ d)) p.0 high);
+    }
+
+pub ceiling_is : (a b q : ℤ) → pos 1 ≤ℤ b → q ≡ floor_quotient (neg_ℤ a) b → IsCeiling a b (neg_ℤ q)
+ceiling_is a b q h e =
+    let f = floor_is (neg_ℤ a) b q h e in
+    let m : b *ℤ neg_ℤ q ≡ neg_ℤ (b *ℤ q) = mul_neg b q in
+    record { above = rw (m) (omega (arith, ints, f.below)); below = rw (m) (omega (arith, ints, f.above)) }

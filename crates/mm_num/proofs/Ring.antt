@@ -1,0 +1,51 @@
+-- The identities of a ring over the integers, stated once. Close an identity over variables by `simp ring`.
+use Rattle.std.specs.Prelude.{◌≡◌, ℕ, ◌*◌, ◌≤◌, ℤ, pos, negsuc, ◌+ℤ◌, ◌-ℤ◌, ◌*ℤ◌, ◌≤ℤ◌, neg_ℤ, refl}
+use Rattle.std.proofs.Common.{ap, sym, ◌∙◌, arith}
+use Rattle.std.proofs.lemmas.Int.{ints}
+use borrow.Author.Differences.{up, down, sum_is_lem, product_is, neg_is}
+use Rattle.std.proofs.Math.IntN.{*ℤ_comm}
+
+pub dist : (a b c : ℤ) → a *ℤ (b +ℤ c) ≡ a *ℤ b +ℤ a *ℤ c
+dist a b c = let s = sum_is_lem b c in omega (arith, ints, ap (λ n. up a * n) s, ap (λ n. down a * n) s)
+
+pub dist_r : (a b c : ℤ) → (a +ℤ b) *ℤ c ≡ a *ℤ c +ℤ b *ℤ c
+dist_r a b c = rw (*ℤ_comm (a +ℤ b) c, *ℤ_comm a c, *ℤ_comm b c) (dist c a b)
+
+pub assoc : (a b c : ℤ) → (a *ℤ b) *ℤ c ≡ a *ℤ (b *ℤ c)
+assoc a b c =
+    let s = product_is a b in
+    let t = product_is b c in
+    omega (
+      arith,
+      ints,
+      ap (λ n. n * up c) s.0,
+      ap (λ n. n * up c) s.1,
+      ap (λ n. n * down c) s.0,
+      ap (λ n. n * down c) s.1,
+      ap (λ n. up a * n) t.0,
+      ap (λ n. up a * n) t.1,
+      ap (λ n. down a * n) t.0,
+      ap (λ n. down a * n) t.1,
+    )
+
+pub swap : (a b c : ℤ) → a *ℤ (b *ℤ c) ≡ b *ℤ (a *ℤ c)
+swap a b c = sym (assoc a b c) ∙ ap (λ x. x *ℤ c) (*ℤ_comm a b) ∙ assoc b a c
+
+pub neg_mul : (a b : ℤ) → neg_ℤ a *ℤ b ≡ neg_ℤ (a *ℤ b)
+neg_mul a b =
+    let n = neg_is a in
+    omega (arith, ints, ap (λ k. k * up b) n.0, ap (λ k. k * down b) n.0, ap (λ k. k * up b) n.1, ap (λ k. k * down b) n.1)
+
+pub mul_neg : (a b : ℤ) → a *ℤ neg_ℤ b ≡ neg_ℤ (a *ℤ b)
+mul_neg a b = *ℤ_comm a (neg_ℤ b) ∙ neg_mul b a ∙ ap neg_ℤ (*ℤ_comm b a)
+
+pub ruleset ring = (dist, dist_r, assoc, swap, *ℤ_comm, neg_mul, mul_neg)
+
+-- a square is at least 0
+pub square_nonneg : (a : ℤ) → pos 0 ≤ℤ (a *ℤ a)
+square_nonneg (pos n) = omega (arith, ints)
+square_nonneg (negsuc n) = omega (arith, ints)
+
+-- a product of two numbers of at least 0 is at least 0
+pub product_nonneg : (a b : ℤ) → pos 0 ≤ℤ a → pos 0 ≤ℤ b → pos 0 ≤ℤ (a *ℤ b)
+product_nonneg a b h k = grind (arith, ints)

@@ -1,0 +1,29 @@
+ghost use Rattle.std.specs.Prelude.{◌≡◌, ℕ, pos, ◌≤◌, max, unsigned_abs};
+ghost use Rattle.std.specs.Int.{IsGcd};
+ghost use Rattle.mm_num.specs.Small.{IsSmall};
+ghost use Rattle.mm_num.specs.Divisor.{gcd_of};
+
+/// The greatest common divisor, which is 0 for two zeros.
+pub fn gcd(a: i128, b: i128) -> i128
+    requires a { IsSmall a }
+    requires b { IsSmall b }
+    // It divides both, and each number that divides both divides it.
+    ensures divisor { IsGcd (unsigned_abs a) (unsigned_abs b) (unsigned_abs result) }
+    ensures value { result ≡ pos (gcd_of (unsigned_abs a) (unsigned_abs b)) }
+    ensures small { IsSmall result }
+{
+    natural_gcd(a.unsigned_abs(), b.unsigned_abs()) as i128
+}
+
+/// Euclid's algorithm.
+fn natural_gcd(mut a: u128, mut b: u128) -> u128
+    ensures divisor { IsGcd a b result }
+    ensures within { result ≤ max a b }
+{
+    while b > 0 {
+        let rest = a % b;
+        a = b;
+        b = rest;
+    }
+    a
+}
