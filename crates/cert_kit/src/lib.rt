@@ -1,0 +1,22 @@
+//! Rows, clauses and certificates, and what they mean.
+//!
+//! A row says of an integer point that a polynomial is at least 0, or 0, there; a clause is solved where each of its
+//! rows holds. The definitions of what an expression means over rows, of the first fault of a certificate, and of a
+//! good certificate stand here once, with the law that no integer point solves a clause with a good certificate.
+#![tactic(auto)]
+
+mod cert;
+mod constants;
+mod law;
+mod nesting;
+mod node;
+mod row;
+
+pub use cert::{Cert, Close, Psatz, Step};
+pub use law::{faultless, soundness};
+pub use nesting::depth;
+pub use node::{Fault, Node};
+pub use row::{Clause, Op, PRow, false_row};
+
+#[cfg(test)]
+mod tests;

@@ -1,0 +1,89 @@
+use crate::{Cert, Close, Op, PRow, Psatz, Step, depth, false_row};
+use mm_poly::Poly;
+use sqlite_items::{Boxed, Items};
+use std::alloc::{AllocError, Global};
+use std::test::Fail;
+
+// Sums nested to this depth round a row.
+fn nested(alloc: Global, depth: u32) -> Result<Psatz, AllocError> {
+    let mut e = Psatz::Hyp(0);
+    for _ in 0..depth {
+        e = Psatz::Add(Boxed::new(alloc, e)?, Boxed::new(alloc, Psatz::Hyp(1))?);
+    }
+    Ok(e)
+}
+
+fn makes(alloc: Global, e: Psatz) -> Result<bool, AllocError> {
+    let mut steps = Vec::new(alloc);
+    steps.push(Step::Rat(e))?;
+    Ok(Cert::make(steps, Close::Done).is_ok())
+}
+
+#[test]
+fn certificates_are_at_most_4096_deep(rt: HostRuntime) -> Result<(), Fail> {
+    let alloc = rt.alloc();
+    for (deep, made) in [(0, true), (4096, true), (4097, false)] {
+        assert_eq!(rt; makes(alloc, nested(alloc, deep)?)?, made, "{deep}");
+    }
+    let close = Close::Split(
+        Poly::var(alloc, 0)?,
+        Boxed::new(alloc, done(alloc, Psatz::Zero)?)?,
+        Boxed::new(alloc, done(alloc, nested(alloc, 4095)?)?)?,
+    );
+    let cert = Cert {
+        steps: Items::new(alloc),
+        close,
+    };
+    assert_eq!(rt; depth(&cert), 4096);
+    let members = Items::from_vec(vec![in alloc; cert]?);
+    let close = Close::Enum(Psatz::Hyp(0), Psatz::Hyp(1), members);
+    assert!(rt; Cert::make(Vec::new(alloc), close).is_err());
+    Ok(())
+}
+
+fn done(alloc: Global, e: Psatz) -> Result<Cert, AllocError> {
+    Ok(Cert {
+        steps: Items::from_vec(vec![in alloc; Step::Cut(e)]?),
+        close: Close::Done,
+    })
+}
+
+#[test]
+fn constants_are_at_least_1_and_small(rt: HostRuntime) -> Result<(), Fail> {
+    let alloc = rt.alloc();
+    for (constant, made) in [
+        (1, true),
+        (0, false),
+        (-5, false),
+        (85070591730234615865843651857942052863, true),
+        (85070591730234615865843651857942052864, false),
+    ] {
+        let part = Boxed::new(alloc, Psatz::Const(constant))?;
+        let e = Psatz::MulPoly(Poly::constant(alloc, 2)?, part);
+        assert_eq!(rt; makes(alloc, e)?, made, "{constant}");
+    }
+    Ok(())
+}
+
+#[test]
+fn false_rows_are_constant(rt: HostRuntime) -> Result<(), Fail> {
+    let alloc = rt.alloc();
+    for (constant, at_least_0, equal) in [(-1, true, true), (0, false, false), (1, false, true)] {
+        let row = PRow {
+            poly: Poly::constant(alloc, constant)?,
+            op: Op::Ge,
+        };
+        assert_eq!(rt; false_row(&row), at_least_0, "{constant} >= 0");
+        let row = PRow {
+            poly: Poly::constant(alloc, constant)?,
+            op: Op::Eq,
+        };
+        assert_eq!(rt; false_row(&row), equal, "{constant} = 0");
+    }
+    let row = PRow {
+        poly: Poly::var(alloc, 3)?,
+        op: Op::Eq,
+    };
+    assert!(rt; !false_row(&row));
+    Ok(())
+}

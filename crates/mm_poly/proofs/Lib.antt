@@ -1,0 +1,13 @@
+pub mod OrderLaws
+pub mod CaseLaws
+pub mod ValueLaws
+pub mod BoundLaws
+pub mod PolyLaws
+pub mod CoeffLaws
+pub mod SumLaws
+pub mod MergeSteps
+pub mod MonoLaws
+pub mod TestLaws
+pub mod ScaleSteps
+pub mod CutLaws
+pub mod CutBoundLaws

@@ -1,0 +1,3 @@
+pub mod Mono
+pub mod Poly
+pub mod Tests

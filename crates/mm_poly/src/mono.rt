@@ -1,0 +1,162 @@
+ghost use Rattle.std.specs.Prelude.{◌≡◌, ℕ, ◌<◌, ◌≤◌, List, [], ◌∷◌, length, drop, slice_get, Some, IfOk, IfSome, IsSome, ◌↔◌, IsTrue};
+ghost use Rattle.std.specs.Cmp.Lexicographic.{slice_cmp};
+ghost use Rattle.mm_poly.specs.Tests.{rises, starts_rising};
+ghost use Rattle.mm_poly.specs.Mono.{mono_cmp, mono_degree, factor_cmp, IsMonomial};
+
+use smallvec::SmallVec;
+use std::alloc::{AllocError, Global};
+use std::cmp::Ordering;
+use std::marker::Model;
+
+/// A product of powers of variables: the variables rise, each exponent is at least 1, and they sum to at most
+/// 255. The constant monomial has no factors.
+#[derive(Debug, Drop)]
+pub struct Mono {
+    factors: SmallVec<(u32, u8), 4>,
+}
+
+impl Model for Mono {
+    ghost use Rattle.std.specs.Prelude.{List, ℕ};
+    ghost use Rattle.mm_poly.specs.Mono.{IsMonomial};
+
+    ghost Value = { List (ℕ × ℕ) };
+
+    ghost view = { λ m. m.factors.items };
+
+    ghost invariant = { λ m. IsMonomial m.factors.items };
+}
+
+impl Mono {
+    /// The constant monomial.
+    pub fn one(alloc: Global) -> Mono
+        ensures { result ≡ [] }
+    {
+        Mono {
+            factors: SmallVec::new(alloc),
+        }
+    }
+
+    /// The monomial of one variable.
+    pub fn var(alloc: Global, v: u32) -> Result<Mono, AllocError>
+        ensures { IfOk result (λ m. m ≡ (v, 1) ∷ []) }
+    {
+        let mut factors = SmallVec::new(alloc);
+        factors.push((v, 1))?;
+        Ok(Mono { factors })
+    }
+
+    /// The monomial with these factors, a variable and its exponent each: none where they don't rise, an exponent
+    /// is 0, or the exponents sum to more than 255.
+    pub fn from_factors(factors: SmallVec<(u32, u8), 4>) -> Option<Mono>
+        ensures some { IsSome result ↔ IsMonomial factors.items }
+        ensures value { IfSome result (λ m. m ≡ factors.items) }
+    {
+        if is_monomial(factors.as_slice()) {
+            Some(Mono { factors })
+        } else {
+            None
+        }
+    }
+
+    /// How many factors it has.
+    #[tactic(auto, using(crate::proofs::MonoLaws::length_small))]
+    pub fn len(&self) -> u32
+        ensures value { result ≡ length self.now }
+        ensures small { result ≤ 255 }
+    {
+        let factors = self.factors.as_slice();
+        factors.len() as u32
+    }
+
+    /// Whether it is the constant monomial.
+    pub fn is_empty(&self) -> bool
+        ensures { IsTrue result ↔ (self.now ≡ []) }
+    {
+        self.factors.is_empty()
+    }
+
+    /// The factor at a place from 0 on: the variable and its exponent.
+    pub fn factor(&self, n: u32) -> (u32, u8)
+        requires { n < length self.now }
+        ensures { slice_get self.now n ≡ Some result }
+    {
+        self.factors[n as usize]
+    }
+
+    /// The sum of the exponents, from 0 to 255.
+    pub fn degree(&self) -> u32
+        ensures value { result ≡ mono_degree self.now }
+        ensures small { result ≤ 255 }
+    {
+        sum_of_exponents(self.factors.as_slice())
+    }
+
+    /// How it compares to another one in monomial order.
+    pub fn order(&self, other: &Mono) -> Ordering
+        ensures { result ≡ mono_cmp self.now other.now }
+    {
+        let higher_first = other.degree().cmp(&self.degree());
+        higher_first.then(order_of_factors(self.factors.as_slice(), other.factors.as_slice()))
+    }
+
+    /// An equal monomial.
+    pub fn copy(&self) -> Result<Mono, AllocError>
+        ensures { IfOk result (λ m. m ≡ self.now) }
+    {
+        let factors = SmallVec::from_slice(*self.factors.allocator(), self.factors.as_slice())?;
+        Ok(Mono { factors })
+    }
+}
+
+// The sum of the exponents.
+fn sum_of_exponents(factors: &[(u32, u8)]) -> u32
+    requires { mono_degree factors.now ≤ 255 }
+    ensures { result ≡ mono_degree factors.now }
+{
+    let mut total = 0;
+    for factor in factors {
+        total += u32::from(factor.1);
+    }
+    total
+}
+
+// How lists of factors compare: the first factors that differ decide, and else the shorter list comes first.
+fn order_of_factors(left: &[(u32, u8)], right: &[(u32, u8)]) -> Ordering
+    ensures { result ≡ slice_cmp factor_cmp left.now right.now }
+{
+    for n in 0..left.len().min(right.len()) {
+        let order = order_of_factor(left[n], right[n]);
+        if order != Ordering::Equal {
+            return order;
+        }
+    }
+    left.len().cmp(&right.len())
+}
+
+fn order_of_factor(left: (u32, u8), right: (u32, u8)) -> Ordering
+    ensures { result ≡ factor_cmp left right }
+{
+    left.0.cmp(&right.0).then(right.1.cmp(&left.1))
+}
+
+// Whether the variables rise, each exponent is at least 1, and they sum to at most 255.
+fn is_monomial(factors: &[(u32, u8)]) -> bool
+    ensures { result ≡ rises 0 factors.now }
+{
+    let mut degree = 0;
+    for (n, factor) in factors.iter().enumerate() {
+        degree += u32::from(factor.1);
+        if factor.1 == 0 || !is_below_next(factors, n) || degree > 255 {
+            return false;
+        }
+    }
+    true
+}
+
+// Whether the variable at this place is below the next one, if there is one.
+fn is_below_next(factors: &[(u32, u8)], n: usize) -> bool
+    requires { n < length factors.now }
+    ensures { result ≡ starts_rising (drop n factors.now) }
+{
+    n + 1 >= factors.len() || factors[n].0 < factors[n + 1].0
+}

@@ -1,0 +1,106 @@
+ghost use Rattle.std.specs.Prelude.{◌≡◌, ◌+◌, ◌*◌, ◌^◌, ◌<◌, [], ◌∷◌, ◌++◌, ◌+ℤ◌, ◌*ℤ◌, unsigned_abs, IfOk, OnOk};
+ghost use Rattle.mm_poly.specs.Poly.{IsPoly, norm, plus, scaled, with_coeff};
+
+use crate::mono::Mono;
+use crate::term::Term;
+use std::alloc::{AllocError, Global};
+use std::cmp::Ordering;
+
+/// The terms of both, in monomial order, with the sum for a monomial that both have.
+pub fn merge(alloc: Global, left: &[Term], right: &[Term]) -> Result<Vec<Term>, AllocError>
+    requires left { IsPoly left.now }
+    requires right { IsPoly right.now }
+    requires small { norm left.now + norm right.now < 2 ^ 126 }
+    ensures { IfOk result (λ terms. terms.items ≡ plus left.now right.now) }
+{
+    let mut out = Vec::with_capacity(alloc, left.len().saturating_add(right.len()))?;
+    let mut i = 0;
+    let mut j = 0;
+    while i < left.len() && j < right.len() {
+        let first = &left[i];
+        let second = &right[j];
+        match first.mono.order(&second.mono) {
+            Ordering::Less => {
+                push_copy(&mut out, first)?;
+                i += 1;
+            }
+            Ordering::Equal => {
+                push_sum(&mut out, first, second)?;
+                i += 1;
+                j += 1;
+            }
+            Ordering::Greater => {
+                push_copy(&mut out, second)?;
+                j += 1;
+            }
+        }
+    }
+    push_copies(&mut out, &left[i..])?;
+    push_copies(&mut out, &right[j..])?;
+    Ok(out)
+}
+
+/// The terms times a number.
+pub fn multiples(alloc: Global, terms: &[Term], c: i128) -> Result<Vec<Term>, AllocError>
+    requires { norm terms.now * unsigned_abs c < 2 ^ 126 }
+    ensures { IfOk result (λ out. out.items ≡ scaled c terms.now) }
+{
+    let mut out = Vec::with_capacity(alloc, terms.len())?;
+    for term in terms {
+        push_multiple(&mut out, c, term)?;
+    }
+    Ok(out)
+}
+
+/// Equal terms.
+pub fn copies(alloc: Global, terms: &[Term]) -> Result<Vec<Term>, AllocError>
+    ensures { IfOk result (λ out. out.items ≡ terms.now) }
+{
+    let mut out = Vec::with_capacity(alloc, terms.len())?;
+    push_copies(&mut out, terms)?;
+    Ok(out)
+}
+
+fn push_copies(out: &mut Vec<Term>, terms: &[Term]) -> Result<(), AllocError>
+    ensures { OnOk result (out.new.items ≡ out.old.items ++ terms.now) }
+{
+    for term in terms {
+        push_copy(out, term)?;
+    }
+    Ok(())
+}
+
+fn push_copy(out: &mut Vec<Term>, term: &Term) -> Result<(), AllocError>
+    ensures { OnOk result (out.new.items ≡ out.old.items ++ term.now ∷ []) }
+{
+    out.push(term.copy()?)?;
+    Ok(())
+}
+
+// The sum of two terms with the same monomial.
+fn push_sum(out: &mut Vec<Term>, first: &Term, second: &Term) -> Result<(), AllocError>
+    requires { unsigned_abs first.now.coeff + unsigned_abs second.now.coeff < 2 ^ 126 }
+    ensures { OnOk result (out.new.items ≡ out.old.items ++ with_coeff (first.now.coeff +ℤ second.now.coeff) second.now.mono []) }
+{
+    push_term(out, first.coeff + second.coeff, &second.mono)
+}
+
+fn push_multiple(out: &mut Vec<Term>, c: i128, term: &Term) -> Result<(), AllocError>
+    requires { unsigned_abs c * unsigned_abs term.now.coeff < 2 ^ 126 }
+    ensures { OnOk result (out.new.items ≡ out.old.items ++ with_coeff (c *ℤ term.now.coeff) term.now.mono []) }
+{
+    push_term(out, c * term.coeff, &term.mono)
+}
+
+// No term where the coefficient is 0.
+fn push_term(out: &mut Vec<Term>, coeff: i128, mono: &Mono) -> Result<(), AllocError>
+    ensures { OnOk result (out.new.items ≡ out.old.items ++ with_coeff coeff mono.now []) }
+{
+    if coeff != 0 {
+        out.push(Term {
+            coeff,
+            mono: mono.copy()?,
+        })?;
+    }
+    Ok(())
+}
