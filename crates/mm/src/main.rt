@@ -1,0 +1,42 @@
+//! The program `mm`: it reads rows and one certificate from its input, and writes what the rules say of them.
+//!
+//! `run` is the whole program over any source, sink, disks and gate; `main` hands it the real ones.
+#![tactic(auto)]
+
+mod checker;
+mod ending;
+mod stream;
+mod text;
+mod top;
+
+use mm_io::{Gate, MemDisk};
+use std::process::ExitCode;
+use std::{env, io};
+use stream::{StdinSource, StdoutSink};
+use top::{Caches, run};
+
+/// The program's gate, which holds nobody.
+struct OpenGate;
+
+impl Gate for OpenGate {
+    fn pass(&self, _session: u32, _goal: u32) {}
+}
+
+fn main(rt: HostRuntime) -> io::Result<ExitCode> {
+    let alloc = rt.alloc();
+    let mut words = Vec::new(alloc);
+    for word in env::args(&rt)?.skip(1) {
+        words.push(word)?;
+    }
+    let caches = Caches {
+        lia: MemDisk::make(alloc, Vec::new(alloc), Vec::new(alloc), None),
+        nia: MemDisk::make(alloc, Vec::new(alloc), Vec::new(alloc), None),
+    };
+    let mut goals = StdinSource::new(rt.stdin());
+    let mut out = StdoutSink::new(rt.stdout());
+    let ended = run(&rt, alloc, &words, &mut goals, &mut out, caches, &OpenGate);
+    Ok(ExitCode::from(ended.status))
+}
+
+#[cfg(test)]
+mod tests;

@@ -1,0 +1,135 @@
+ghost use Rattle.std.specs.Prelude.{◌≡◌, ◌+◌, ◌^◌, ◌<◌, ◌≤◌, ◌⊎◌, ◌↔◌, List, [], map, length, IsTrue, IfOk, IfSome, IsErrOf, string_bytes};
+ghost use Rattle.std.specs.Io.KnownBytes.{Appends, IsAtEnd};
+ghost use Rattle.mm_io.specs.Cause.{HasRisen};
+ghost use Rattle.mm_io.specs.Writing.{AppendsPrefix};
+ghost use Rattle.mm.specs.Ending.{IsCheckWord, CallsFor, TextCallsFor, Ends, WritesPrefix, IsWhole, IsUnsolvable, IsRefused, line_of, status_of};
+
+use crate::checker::check;
+use crate::ending::{Ending, line, status};
+use crate::text::{TextFail, read_check};
+use mm_io::{Disk, Gate, ReadFail, Sink, Source, read_all, write_all};
+use std::alloc::Global;
+use std::thread::Threads;
+
+/// The most input that a check is read from, 256 MiB.
+const INPUT_LIMIT: u64 = 1 << 28;
+
+const OUT_OF_MEMORY: u8 = 3;
+
+const DEVICE_FAILED: u8 = 5;
+
+/// The disks of the two caches.
+#[derive(Drop)]
+pub struct Caches<D> {
+    pub lia: D,
+    pub nia: D,
+}
+
+/// The status of a run, and the disks that were handed in.
+#[derive(Drop)]
+pub struct Ended<D> {
+    pub status: u8,
+    pub caches: Caches<D>,
+}
+
+/// Why a run has no ending of its own.
+#[derive(Clone, Copy, Debug, PartialEq, Eq)]
+pub enum RunFail {
+    /// A device failed.
+    Device,
+    /// Memory ran out.
+    NoMemory,
+}
+
+/// Runs the program: with the one word `check` it reads rows and a certificate from `goals`, and writes the verdict
+/// to `out`. Status 0 is for `accepted`, 1 for the other verdicts, 2 for a refusal, 3 for want of memory, and 5 for
+/// a device that failed.
+pub fn run<R: Threads + Sync, S: Source, K: Sink, D: Disk + Send, G: Gate + Sync>(
+    _rt: &R,
+    alloc: Global,
+    words: &[String],
+    goals: &mut S,
+    out: &mut K,
+    caches: Caches<D>,
+    _gate: &G,
+) -> Ended<D>
+    // The whole line was written that the words and the bytes call for, and the status is that of the line.
+    ensures ended { IsWhole result.status → Ends (map string_bytes words.now) (S.left goals.old) (K.written out.old) (K.written out.new) result.status }
+    // `accepted` is written only where no integer point solves the rows.
+    ensures sound { result.status ≡ 0 → IfSome (S.left goals.old) IsUnsolvable }
+    // A refusal comes wherever it should.
+    ensures refused { IsWhole result.status → IsRefused (map string_bytes words.now) (S.left goals.old) → result.status ≡ 2 }
+    // A verdict is written after the input was read to its end.
+    ensures read { result.status < 2 → IsAtEnd (S.left goals.new) }
+
+    ensures memory { result.status ≡ 3 → Appends (K.written out.old) (K.written out.new) [] }
+    ensures fault { result.status ≡ 5 → HasRisen (S.faults goals.old) (S.faults goals.new) ⊎ HasRisen (K.faults out.old) (K.faults out.new) }
+    ensures prefix { result.status ≡ 5 → WritesPrefix (map string_bytes words.now) (S.left goals.old) (K.written out.old) (K.written out.new) }
+
+    // The disks are given back as they were handed in.
+    ensures caches { result.caches ≡ caches }
+    ensures source_kept { S.faults goals.old ≤ S.faults goals.new }
+    ensures sink_kept { K.faults out.old ≤ K.faults out.new }
+{
+    let status = match ending_of(alloc, words, goals) {
+        Ok(ending) => finish(out, ending),
+        Err(RunFail::NoMemory) => OUT_OF_MEMORY,
+        Err(RunFail::Device) => DEVICE_FAILED,
+    };
+    Ended { status, caches }
+}
+
+// What the words and the input call for.
+fn ending_of<S: Source>(alloc: Global, words: &[String], goals: &mut S) -> Result<Ending, RunFail>
+    ensures due { IfOk result (CallsFor (map string_bytes words.now) (S.left goals.old)) }
+    ensures read { IfOk result (λ ending. status_of ending < 2 → IsAtEnd (S.left goals.new)) }
+    ensures fault { IsErrOf result RunFail.Device → HasRisen (S.faults goals.old) (S.faults goals.new) }
+    ensures kept { S.faults goals.old ≤ S.faults goals.new }
+{
+    if !asks_for_check(words) {
+        return Ok(Ending::Usage);
+    }
+    match read_all(alloc, goals, INPUT_LIMIT) {
+        Ok(bytes) => ending_of_text(alloc, &bytes),
+        Err(ReadFail::TooLong) => Ok(Ending::TooLong),
+        Err(ReadFail::Fault) => Err(RunFail::Device),
+        Err(ReadFail::NoMemory) => Err(RunFail::NoMemory),
+    }
+}
+
+// What the bytes of a check call for.
+fn ending_of_text(alloc: Global, bytes: &[u8]) -> Result<Ending, RunFail>
+    requires { length bytes.now ≤ 2 ^ 28 }
+    ensures due { IfOk result (TextCallsFor bytes.now) }
+    ensures no_fault { IsErrOf result RunFail.Device → ⊥ }
+{
+    match read_check(alloc, bytes) {
+        Ok((clause, cert)) => match check(alloc, &clause, &cert) {
+            Ok(verdict) => Ok(Ending::Checked(verdict)),
+            Err(_) => Err(RunFail::NoMemory),
+        },
+        Err(TextFail::Bad) => Ok(Ending::Bad),
+        Err(TextFail::NoMemory) => Err(RunFail::NoMemory),
+    }
+}
+
+// Whether the words are the one word `check`.
+fn asks_for_check(words: &[String]) -> bool
+    ensures { IsTrue result ↔ IsCheckWord (map string_bytes words.now) }
+{
+    words.len() == 1 && words[0].as_str() == "check"
+}
+
+// Writes the line, and answers the status.
+fn finish<K: Sink>(out: &mut K, ending: Ending) -> u8
+    ensures written { result ≡ status_of ending → Appends (K.written out.old) (K.written out.new) (line_of ending) }
+    ensures status { (result ≡ status_of ending) ⊎ (result ≡ 5) }
+    ensures fault { result ≡ 5 → HasRisen (K.faults out.old) (K.faults out.new) }
+    ensures prefix { result ≡ 5 → AppendsPrefix (K.written out.old) (K.written out.new) (line_of ending) }
+    ensures kept { K.faults out.old ≤ K.faults out.new }
+{
+    match write_all(out, line(ending)) {
+        Ok(()) => status(ending),
+        Err(_) => DEVICE_FAILED,
+    }
+}
