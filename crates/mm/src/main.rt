@@ -11,9 +11,10 @@ mod top;
 
 use mm_io::{Gate, MemDisk};
 use std::process::ExitCode;
+use std::rt::Env;
 use std::{env, io};
 use stream::{StdinSource, StdoutSink};
-use top::{Caches, run};
+use top::{Caches, OUT_OF_MEMORY, run};
 
 /// The program's gate, which holds nobody.
 struct OpenGate;
@@ -22,12 +23,20 @@ impl Gate for OpenGate {
     fn pass(&self, _session: u32, _goal: u32) {}
 }
 
-fn main(rt: HostRuntime) -> io::Result<ExitCode> {
-    let alloc = rt.alloc();
-    let mut words = Vec::new(alloc);
-    for word in env::args(&rt)?.skip(1) {
+// The words after the program's name.
+fn words_of(rt: &(impl Env + AllocGlobal)) -> io::Result<Vec<String>> {
+    let mut words = Vec::new(rt.alloc());
+    for word in env::args(rt)?.skip(1) {
         words.push(word)?;
     }
+    Ok(words)
+}
+
+fn main(rt: HostRuntime) -> ExitCode {
+    let alloc = rt.alloc();
+    let Ok(words) = words_of(&rt) else {
+        return ExitCode::from(OUT_OF_MEMORY);
+    };
     let caches = Caches {
         lia: MemDisk::make(alloc, Vec::new(alloc), Vec::new(alloc), None),
         nia: MemDisk::make(alloc, Vec::new(alloc), Vec::new(alloc), None),
@@ -35,7 +44,7 @@ fn main(rt: HostRuntime) -> io::Result<ExitCode> {
     let mut goals = StdinSource::new(rt.stdin());
     let mut out = StdoutSink::new(rt.stdout());
     let ended = run(&rt, alloc, &words, &mut goals, &mut out, caches, &OpenGate);
-    Ok(ExitCode::from(ended.status))
+    ExitCode::from(ended.status)
 }
 
 #[cfg(test)]

@@ -14,7 +14,8 @@ use std::thread::Threads;
 /// The most input that a check is read from, 256 MiB.
 const INPUT_LIMIT: u64 = 1 << 28;
 
-const OUT_OF_MEMORY: u8 = 3;
+/// The status for want of memory.
+pub const OUT_OF_MEMORY: u8 = 3;
 
 const DEVICE_FAILED: u8 = 5;
 

@@ -13,12 +13,8 @@ use Rattle.mm_num.proofs.DivisorLaws.{gcd_divides}
 use Rattle.mm_poly.specs.declared.term.Term.{Term}
 use Rattle.mm_poly.specs.Mono.{mono_value, is_constant}
 use Rattle.mm_poly.specs.Poly.{value, plus, constant_of, constant_part, without_constant, content, floor_divided}
+pub use Rattle.mm_poly.specs.Poly.{DividesAll}
 use Rattle.mm_poly.proofs.ValueLaws.{value_with, value_plus, value_constant, sum_assoc, sum_swap, mul_zero, one_mul}
-
--- a number divides the coefficient of each term
-abbrev pub DividesAll : ℕ → List Term → Type 0
-DividesAll g [] = Unit {0}
-DividesAll g (t ∷ ts) = (g ∣ unsigned_abs t.coeff) × DividesAll g ts
 
 constant_step : (c v k w : ℤ) → w ≡ v +ℤ k → c *ℤ pos 1 +ℤ w ≡ v +ℤ (c +ℤ k)
 constant_step c v k w e = ap (λ z. z +ℤ w) (*ℤ_comm c (pos 1) ∙ one_mul c) ∙ ap (λ z. c +ℤ z) e ∙ sum_swap c v k

@@ -11,3 +11,11 @@ pub mod TestLaws
 pub mod ScaleSteps
 pub mod CutLaws
 pub mod CutBoundLaws
+pub mod ContentLaws
+pub mod ConstantLaws
+pub mod ProductLaws
+pub mod FactorLaws
+pub mod SameLaws
+pub mod PointLaws
+pub mod PointSteps
+pub mod FactorSteps

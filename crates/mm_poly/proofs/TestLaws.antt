@@ -40,7 +40,7 @@ ordered_last (t ∷ []) zero h = refl
 ordered_last (t ∷ u ∷ us) zero h = absurd (omega arith)
 ordered_last (t ∷ ts) (suc n) h = ordered_last ts n (omega arith)
 
-above_through : (v w : ℕ) (fs : List (ℕ × ℕ)) → v < w → VarsAbove w fs → VarsAbove v fs
+pub above_through : (v w : ℕ) (fs : List (ℕ × ℕ)) → v < w → VarsAbove w fs → VarsAbove v fs
 above_through v w [] h a = tt
 above_through v w (f ∷ fs) h a = (omega (arith, a.0), above_through v w fs h a.1)
 
@@ -100,10 +100,10 @@ poly_then [] p = refl
 poly_then (t ∷ ts) p = by_zero t.coeff false (starts_ordered (t ∷ ts) && ordered ts) (λ b. b ≡ true)
     (λ e. absurd (p.0 e)) (λ n. together (starts_ordered (t ∷ ts)) (ordered ts) (after_starts t ts p.1) (poly_then ts p.2))
 
-nat_less : (a b : ℕ) → a < b → nat_cmp a b ≡ Less
+pub nat_less : (a b : ℕ) → a < b → nat_cmp a b ≡ Less
 nat_less a b h = rw (lt-ltb a b h) refl
 
-nat_more : (a b : ℕ) → b < a → nat_cmp a b ≡ Greater
+pub nat_more : (a b : ℕ) → b < a → nat_cmp a b ≡ Greater
 nat_more a b h = nat_cmp_total.antisymm a b ∙ ap ordering_reverse (nat_less b a h)
 
 nat_same : (a b : ℕ) → a ≡ b → nat_cmp a b ≡ Equal

@@ -1,3 +1,5 @@
 pub mod Mono
 pub mod Poly
+pub mod Product
+pub mod Point
 pub mod Tests

@@ -3,10 +3,11 @@
 use Rattle.std.specs.Prelude.{◌≡◌, ◌≢◌, ℕ, ◌+◌, ◌^◌, ◌<◌, ◌≤◌, max, ℤ, pos, ◌+ℤ◌, ◌*ℤ◌, unsigned_abs, List, [], ◌∷◌, length, cond}
 use Rattle.std.specs.declared.cmp.Ordering.TheVariants.{Less, Equal, Greater}
 use Rattle.std.specs.Ordering.{int_eq, is_eq}
+use Rattle.std.specs.Int.{◌∣◌}
 use Rattle.mm_num.specs.Quotient.{floor_by}
 use Rattle.mm_num.specs.Divisor.{gcd_of}
 use Rattle.mm_poly.specs.declared.term.Term.{Term}
-use Rattle.mm_poly.specs.Mono.{mono_value, mono_degree, mono_cmp, mono_times, is_constant}
+use Rattle.mm_poly.specs.Mono.{mono_value, mono_degree, mono_cmp, mono_times, is_constant, IsMono}
 
 abbrev pub term_value : (ℕ → ℤ) → Term → ℤ
 term_value x t = t.coeff *ℤ mono_value x t.mono
@@ -107,6 +108,21 @@ without_constant (t ∷ ts) = cond (is_constant t.mono) (without_constant ts) (t
 abbrev pub content : List Term → ℕ
 content [] = 0
 content (t ∷ ts) = cond (is_constant t.mono) (content ts) (gcd_of (unsigned_abs t.coeff) (content ts))
+
+-- a number divides the coefficient of each term
+abbrev pub DividesAll : ℕ → List Term → Type 0
+DividesAll g [] = Unit {0}
+DividesAll g (t ∷ ts) = (g ∣ unsigned_abs t.coeff) × DividesAll g ts
+
+-- it divides each coefficient that isn't constant, and each number that does so divides it
+pub record IsContent (terms : List Term) (g : ℕ) : Type 0 where
+  pub divides : DividesAll g (without_constant terms)
+  pub greatest : (d : ℕ) → DividesAll d (without_constant terms) → d ∣ g
+
+-- every monomial is one
+abbrev pub AllMono : List Term → Type 0
+AllMono [] = Unit {0}
+AllMono (t ∷ ts) = IsMono t.mono × AllMono ts
 
 -- each coefficient divided by g, from 1, and rounded down; terms that get 0 are left out
 abbrev pub floor_divided : ℕ → List Term → List Term

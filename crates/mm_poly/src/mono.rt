@@ -1,7 +1,8 @@
-ghost use Rattle.std.specs.Prelude.{◌≡◌, ℕ, ◌<◌, ◌≤◌, List, [], ◌∷◌, length, drop, slice_get, Some, IfOk, IfSome, IsSome, ◌↔◌, IsTrue};
+ghost use Rattle.std.specs.Prelude.{◌≡◌, ℕ, ◌+◌, ◌<◌, ◌≤◌, List, [], ◌∷◌, length, drop, slice_get, Some, IfOk, IfSome, IsSome, ◌↔◌, IsTrue};
 ghost use Rattle.std.specs.Cmp.Lexicographic.{slice_cmp};
 ghost use Rattle.mm_poly.specs.Tests.{rises, starts_rising};
-ghost use Rattle.mm_poly.specs.Mono.{mono_cmp, mono_degree, factor_cmp, IsMonomial};
+ghost use Rattle.mm_poly.specs.Mono.{mono_cmp, mono_degree, mono_times, factor_cmp, IsMono, IsMonomial};
+ghost use Rattle.mm_poly.specs.Point.{VarsBelow};
 
 use smallvec::SmallVec;
 use std::alloc::{AllocError, Global};
@@ -99,6 +100,34 @@ impl Mono {
         higher_first.then(order_of_factors(self.factors.as_slice(), other.factors.as_slice()))
     }
 
+    /// Whether each variable is below this number.
+    pub fn vars_below(&self, count: usize) -> bool
+        ensures { IsTrue result ↔ VarsBelow count self.now }
+    {
+        are_below(self.factors.as_slice(), count)
+    }
+
+    /// The product, for degrees that sum to at most 255: the exponents of a variable are added.
+    pub fn times(&self, other: &Mono) -> Result<Mono, AllocError>
+        requires { mono_degree self.now + mono_degree other.now ≤ 255 }
+        ensures { IfOk result (λ m. m ≡ mono_times self.now other.now) }
+    {
+        let factors = product_of_factors(
+            *self.factors.allocator(),
+            self.factors.as_slice(),
+            other.factors.as_slice(),
+        )?;
+        Ok(Mono { factors })
+    }
+
+    /// Whether it is the same monomial.
+    #[tactic(auto, using(crate::proofs::SameLaws::same_order))]
+    pub fn same(&self, other: &Mono) -> bool
+        ensures { IsTrue result ↔ (self.now ≡ other.now) }
+    {
+        self.order(other) == Ordering::Equal
+    }
+
     /// An equal monomial.
     pub fn copy(&self) -> Result<Mono, AllocError>
         ensures { IfOk result (λ m. m ≡ self.now) }
@@ -106,6 +135,56 @@ impl Mono {
         let factors = SmallVec::from_slice(*self.factors.allocator(), self.factors.as_slice())?;
         Ok(Mono { factors })
     }
+}
+
+// Whether each variable is below this number.
+fn are_below(factors: &[(u32, u8)], count: usize) -> bool
+    ensures { IsTrue result ↔ VarsBelow count factors.now }
+{
+    for factor in factors {
+        if factor.0 as usize >= count {
+            return false;
+        }
+    }
+    true
+}
+
+// The factors of both, with the sum of the exponents for a variable that both have.
+fn product_of_factors(
+    alloc: Global,
+    left: &[(u32, u8)],
+    right: &[(u32, u8)],
+) -> Result<SmallVec<(u32, u8), 4>, AllocError>
+    requires left { IsMono left.now }
+    requires right { IsMono right.now }
+    requires small { mono_degree left.now + mono_degree right.now ≤ 255 }
+    ensures { IfOk result (λ factors. factors.items ≡ mono_times left.now right.now) }
+{
+    let mut out = SmallVec::new(alloc);
+    let mut i = 0;
+    let mut j = 0;
+    while i < left.len() && j < right.len() {
+        let first = left[i];
+        let second = right[j];
+        match first.0.cmp(&second.0) {
+            Ordering::Less => {
+                out.push(first)?;
+                i += 1;
+            }
+            Ordering::Equal => {
+                out.push((first.0, first.1 + second.1))?;
+                i += 1;
+                j += 1;
+            }
+            Ordering::Greater => {
+                out.push(second)?;
+                j += 1;
+            }
+        }
+    }
+    out.extend_from_slice(&left[i..])?;
+    out.extend_from_slice(&right[j..])?;
+    Ok(out)
 }
 
 // The sum of the exponents.

@@ -1,13 +1,17 @@
-ghost use Rattle.std.specs.Prelude.{◌≡◌, ℕ, ◌+◌, ◌*◌, ◌^◌, ◌<◌, ◌≤◌, ℤ, pos, unsigned_abs, length, drop, slice_get, Some, IfOk, IfSome, IsSome, IsErrOf, IsOk, ◌↔◌, ◌⊎◌, IsTrue};
+ghost use Rattle.std.specs.Prelude.{◌≡◌, ℕ, ◌+◌, ◌*◌, ◌^◌, ◌<◌, ◌≤◌, ℤ, pos, unsigned_abs, length, drop, slice_get, Some, IfOk, IfSome, IsSome, IsNone, IsErrOf, IsOk, ◌↔◌, ◌⊎◌, IsTrue};
 ghost use Rattle.std.specs.Bool.{OnTrue};
 ghost use Rattle.mm_num.specs.Small.{IsSmall};
 ghost use Rattle.mm_poly.specs.Tests.{ordered, starts_ordered};
-ghost use Rattle.mm_poly.specs.Poly.{Fits, plus, scaled, constant_of, variable_of, norm, spread, degree};
+ghost use Rattle.mm_poly.specs.Poly.{Fits, plus, scaled, times, constant_of, variable_of, norm, spread, degree, value, content, IsContent};
+ghost use Rattle.mm_poly.specs.Point.{HasPlaces, value_bound, point_of};
 
 use crate::fail::PolyFail;
 use crate::mono::Mono;
+use crate::point::{greatest_magnitude, have_places, is_small_multiple, value_of};
+use crate::product::product;
 use crate::sum::{copies, merge, multiples};
 use crate::term::Term;
+use mm_num::gcd;
 use std::alloc::{AllocError, Global};
 use std::cmp::Ordering;
 use std::marker::Model;
@@ -17,6 +21,9 @@ const NORM_LIMIT: u128 = 1 << 126;
 
 // A polynomial has at most this many terms.
 const MOST_TERMS: u32 = 65_536;
+
+// The exponents of a term sum to at most this.
+const HIGHEST_DEGREE: u32 = 255;
 
 /// A polynomial: its terms stand in monomial order and no coefficient is 0. The norm is below 2^126, there are at
 /// most 65,536 terms, and the degree is at most 255.
@@ -108,6 +115,29 @@ impl Poly {
         Ok(Poly { terms })
     }
 
+    /// The product: `Big` where the norms' product is 2^126 or more, the spreads' product is more than 65,536, or
+    /// the degrees sum to more than 255.
+    pub fn mul(&self, alloc: Global, other: &Poly) -> Result<Poly, PolyFail>
+        ensures product { IfOk result (λ p. p ≡ times self.now other.now) }
+        ensures big { IsErrOf result PolyFail.Big → (2 ^ 126 ≤ norm self.now * norm other.now) ⊎ ((65536 < spread self.now * spread other.now) ⊎ (255 < degree self.now + degree other.now)) }
+        ensures fits { IsOk result → (norm self.now * norm other.now < 2 ^ 126) × (spread self.now * spread other.now ≤ 65536) × (degree self.now + degree other.now ≤ 255) }
+    {
+        if u64::from(self.spread()) * u64::from(other.spread()) > u64::from(MOST_TERMS) {
+            return Err(PolyFail::Big);
+        }
+        if self.degree() + other.degree() > HIGHEST_DEGREE {
+            return Err(PolyFail::Big);
+        }
+        if !is_small_product(
+            sum_of_magnitudes(&self.terms),
+            sum_of_magnitudes(&other.terms),
+        ) {
+            return Err(PolyFail::Big);
+        }
+        let terms = product(alloc, &self.terms, &other.terms)?;
+        Ok(Poly { terms })
+    }
+
     /// The term at a place from 0 on, in monomial order.
     pub fn term(&self, n: u32) -> &Term
         requires { n < spread self.now }
@@ -145,6 +175,46 @@ impl Poly {
         greatest
     }
 
+    /// The greatest common divisor of the coefficients that aren't constant, 0 where there are none.
+    #[tactic(auto, using(crate::proofs::ContentLaws::is_content))]
+    pub fn content(&self) -> i128
+        ensures value { result ≡ pos (content self.now) }
+        ensures small { content self.now < 2 ^ 126 }
+        // It divides each of those coefficients, and each number that does so divides it.
+        ensures divisor { IsContent self.now (content self.now) }
+    {
+        common_divisor(&self.terms)
+    }
+
+    /// Whether a point of this many numbers has a place for each variable.
+    pub fn has_places(&self, count: usize) -> bool
+        ensures { IsTrue result ↔ HasPlaces count self.now }
+    {
+        have_places(&self.terms, count)
+    }
+
+    /// The value at a point that has a place for each variable; none where a bound on it reaches 2^126. The bound
+    /// is the norm times a power: the greatest magnitude in the point, or 1 where that is 0, to the degree.
+    pub fn value(&self, point: &[i128]) -> Option<i128>
+        requires { HasPlaces (length point.now) self.now }
+        ensures none { IsNone result ↔ (2 ^ 126 ≤ value_bound self.now point.now) }
+        ensures value { IfSome result (λ v. v ≡ value (point_of point.now) self.now) }
+    {
+        let greatest = greatest_magnitude(point).max(1);
+        if is_small_multiple(sum_of_magnitudes(&self.terms), greatest, self.degree()) {
+            Some(value_of(&self.terms, point))
+        } else {
+            None
+        }
+    }
+
+    /// Whether it is the same polynomial.
+    pub fn same(&self, other: &Poly) -> bool
+        ensures { IsTrue result ↔ (self.now ≡ other.now) }
+    {
+        are_same(&self.terms, &other.terms)
+    }
+
     /// An equal polynomial.
     pub fn copy(&self, alloc: Global) -> Result<Poly, AllocError>
         ensures { IfOk result (λ p. p ≡ self.now) }
@@ -162,6 +232,37 @@ fn is_small_product(a: u128, b: u128) -> bool
         Some(product) => product < NORM_LIMIT,
         None => false,
     }
+}
+
+// Whether both have the same terms.
+fn are_same(left: &[Term], right: &[Term]) -> bool
+    ensures { IsTrue result ↔ (left.now ≡ right.now) }
+{
+    if left.len() != right.len() {
+        return false;
+    }
+    for n in 0..left.len() {
+        if !left[n].same(&right[n]) {
+            return false;
+        }
+    }
+    true
+}
+
+// The greatest common divisor of the coefficients that aren't constant.
+fn common_divisor(terms: &[Term]) -> i128
+    requires { norm terms.now < 2 ^ 126 }
+    ensures value { result ≡ pos (content terms.now) }
+    ensures small { content terms.now < 2 ^ 126 }
+{
+    let mut divisor = 0;
+    for n in (0..terms.len()).rev() {
+        let term = &terms[n];
+        if !term.mono.is_empty() {
+            divisor = gcd(term.coeff, divisor);
+        }
+    }
+    divisor
 }
 
 // Whether the terms stand in monomial order with no coefficient 0, and norm and spread are within their bounds.

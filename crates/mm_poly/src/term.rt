@@ -1,4 +1,6 @@
-ghost use Rattle.std.specs.Prelude.{◌≡◌, IfOk};
+ghost use Rattle.std.specs.Prelude.{◌≡◌, ◌+◌, ◌*◌, ◌^◌, ◌<◌, ◌≤◌, unsigned_abs, IfOk, IsTrue, ◌↔◌};
+ghost use Rattle.mm_poly.specs.Mono.{mono_degree};
+ghost use Rattle.mm_poly.specs.Product.{term_times};
 
 use crate::mono::Mono;
 use std::alloc::{AllocError, Global};
@@ -11,6 +13,27 @@ pub struct Term {
 }
 
 impl Term {
+    /// The product of both.
+    pub fn times(&self, other: &Term) -> Result<Term, AllocError>
+        requires small { unsigned_abs self.now.coeff * unsigned_abs other.now.coeff < 2 ^ 126 }
+        requires degree { mono_degree self.now.mono + mono_degree other.now.mono ≤ 255 }
+        ensures { IfOk result (λ t. t ≡ term_times self.now other.now) }
+    {
+        let mono = self.mono.times(&other.mono)?;
+        Ok(Term {
+            coeff: self.coeff * other.coeff,
+            mono,
+        })
+    }
+
+    /// Whether it has the same monomial and the same coefficient.
+    #[tactic(auto, using(crate::proofs::CoeffLaws::term_same))]
+    pub fn same(&self, other: &Term) -> bool
+        ensures { IsTrue result ↔ (self.now ≡ other.now) }
+    {
+        self.coeff == other.coeff && self.mono.same(&other.mono)
+    }
+
     /// An equal term.
     pub fn copy(&self) -> Result<Term, AllocError>
         ensures { IfOk result (λ t. t ≡ self.now) }

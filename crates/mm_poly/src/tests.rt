@@ -189,6 +189,138 @@ fn scales(rt: HostRuntime) -> Result<(), Fail> {
     Ok(())
 }
 
+// Two factors, and their product where it fits.
+const PRODUCTS: [(Terms, Terms, Option<Terms>); 9] = [
+    (
+        &[(1, &[(0, 1)]), (-1, &[(1, 1)])],
+        &[(1, &[(0, 1)]), (1, &[(1, 1)])],
+        Some(&[(1, &[(0, 2)]), (-1, &[(1, 2)])]),
+    ),
+    (
+        &[(1, &[(0, 1)]), (2, &[(1, 1)]), (3, &[])],
+        &[(1, &[(0, 1)]), (2, &[(1, 1)]), (3, &[])],
+        Some(&[
+            (1, &[(0, 2)]),
+            (4, &[(0, 1), (1, 1)]),
+            (4, &[(1, 2)]),
+            (6, &[(0, 1)]),
+            (12, &[(1, 1)]),
+            (9, &[]),
+        ]),
+    ),
+    (
+        &[(1, &[(0, 2)]), (1, &[(0, 1)]), (1, &[])],
+        &[(1, &[(0, 2)]), (-1, &[(0, 1)]), (1, &[])],
+        Some(&[(1, &[(0, 4)]), (1, &[(0, 2)]), (1, &[])]),
+    ),
+    (
+        &[(2, &[(0, 1), (3, 2), (5, 1)])],
+        &[(-7, &[(1, 1), (3, 1), (6, 4)])],
+        Some(&[(-14, &[(0, 1), (1, 1), (3, 3), (5, 1), (6, 4)])]),
+    ),
+    (SQUARE, &[], Some(&[])),
+    (
+        &[((1 << 63) - 1, &[(0, 1)])],
+        &[((1 << 63) + 1, &[])],
+        Some(&[(LIMIT - 1, &[(0, 1)])]),
+    ),
+    (&[(1 << 63, &[(0, 1)])], &[(1 << 63, &[])], None),
+    (
+        &[(1, &[(0, 128)])],
+        &[(1, &[(0, 127)])],
+        Some(&[(1, &[(0, 255)])]),
+    ),
+    (&[(1, &[(0, 128)])], &[(1, &[(1, 128)])], None),
+];
+
+#[test]
+fn multiplies(rt: HostRuntime) -> Result<(), Fail> {
+    let alloc = rt.alloc();
+    for (n, (left, right, product)) in PRODUCTS.iter().enumerate() {
+        let left = poly(alloc, left)?;
+        let right = poly(alloc, right)?;
+        for found in [left.mul(alloc, &right), right.mul(alloc, &left)] {
+            match (found, product) {
+                (Ok(found), Some(wanted)) => has_terms(&rt, &found, wanted),
+                (Err(fail), None) => assert_eq!(rt; fail, PolyFail::Big),
+                _ => panic!(rt; "at {n}"),
+            }
+        }
+    }
+    Ok(())
+}
+
+// A polynomial, a point, and the value where its bound is small enough.
+const VALUES: [(Terms, &'static [i128], Option<i128>); 10] = [
+    (SQUARE, &[3], Some(26)),
+    (SQUARE, &[-3], Some(20)),
+    (
+        &[(3, &[(0, 1), (1, 2)]), (-1, &[(2, 1)])],
+        &[2, -5, 7],
+        Some(143),
+    ),
+    (&[(LIMIT - 1, &[])], &[], Some(LIMIT - 1)),
+    (&[(1, &[])], &[i128::MAX], Some(1)),
+    (&[], &[i128::MIN], Some(0)),
+    (&[(1, &[(0, 1)])], &[1 - LIMIT], Some(1 - LIMIT)),
+    (&[(1, &[(0, 1)])], &[-LIMIT], None),
+    (
+        &[(1, &[(0, 2)])],
+        &[(1 << 63) - 1],
+        Some(LIMIT - (1 << 64) + 1),
+    ),
+    (&[(1, &[(0, 2)])], &[1 << 63], None),
+];
+
+const SPARSE: Terms = &[(1, &[(0, 1), (3, 1)])];
+
+#[test]
+fn evaluates(rt: HostRuntime) -> Result<(), Fail> {
+    let alloc = rt.alloc();
+    for (list, point, value) in &VALUES {
+        let poly = poly(alloc, list)?;
+        assert!(rt; poly.has_places(point.len()));
+        assert_eq!(rt; poly.value(point), *value);
+    }
+    assert!(rt; !poly(alloc, SPARSE)?.has_places(3));
+    Ok(())
+}
+
+const CONTENTS: [(Terms, i128); 4] = [
+    (&[(6, &[(0, 1)]), (-9, &[(1, 1)]), (4, &[])], 3),
+    (&[(4, &[])], 0),
+    (&[], 0),
+    (&[(-5, &[(0, 2)])], 5),
+];
+
+#[test]
+fn common_factors(rt: HostRuntime) -> Result<(), Fail> {
+    let alloc = rt.alloc();
+    for (list, content) in &CONTENTS {
+        assert_eq!(rt; poly(alloc, list)?.content(), *content);
+    }
+    Ok(())
+}
+
+// None of these is the square.
+const OTHERS: [Terms; 4] = [
+    &[(2, &[(0, 2)]), (1, &[(0, 1)])],
+    &[(2, &[(0, 2)]), (1, &[(0, 1)]), (4, &[])],
+    &[(2, &[(0, 2)]), (1, &[(1, 1)]), (5, &[])],
+    &[],
+];
+
+#[test]
+fn knows_copies(rt: HostRuntime) -> Result<(), Fail> {
+    let alloc = rt.alloc();
+    let square = poly(alloc, SQUARE)?;
+    assert!(rt; square.same(&square.copy(alloc)?));
+    for other in &OTHERS {
+        assert!(rt; !square.same(&poly(alloc, other)?));
+    }
+    Ok(())
+}
+
 #[test]
 fn bounds_the_terms(rt: HostRuntime) -> Result<(), Fail> {
     let alloc = rt.alloc();
@@ -205,5 +337,27 @@ fn bounds_the_terms(rt: HostRuntime) -> Result<(), Fail> {
             .add(alloc, &Poly::constant(alloc, 1)?);
         assert_eq!(rt; sum.is_ok(), fits);
     }
+    Ok(())
+}
+
+fn variables(alloc: Global, from: u32, to: u32) -> Result<Poly, Fail> {
+    let mut terms = Vec::new(alloc);
+    for v in from..to {
+        terms.push(Term {
+            coeff: 1,
+            mono: Mono::var(alloc, v)?,
+        })?;
+    }
+    Ok(Poly::from_terms(terms).ok_or("no polynomial")?)
+}
+
+#[test]
+fn bounds_the_products(rt: HostRuntime) -> Result<(), Fail> {
+    let alloc = rt.alloc();
+    let left = variables(alloc, 0, 256)?;
+    let product = left.mul(alloc, &variables(alloc, 256, 512)?)?;
+    assert_eq!(rt; product.spread(), 65_536);
+    let more = variables(alloc, 256, 513)?;
+    assert!(rt; matches!(left.mul(alloc, &more), Err(PolyFail::Big)));
     Ok(())
 }

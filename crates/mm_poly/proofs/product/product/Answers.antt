@@ -1,0 +1,19 @@
+use Rattle.std.proofs.Common.{◌≡◌, IfOk, List, [], ap, sym, ◌∙◌, subst, arith}
+use Rattle.mm_poly.specs.declared.term.Term.{Term}
+use Rattle.mm_poly.specs.Poly.{norm, plus}
+use Rattle.mm_poly.specs.Product.{AllNonZero}
+use Rattle.mm_poly.proofs.ProductLaws.{nonzero_of, nonzero_all, norm_all, times_all}
+use Rattle.mm_poly.proofs.product.product.Goals as goal
+
+pub joined-requires-clause-nonzero : goal.joined-requires-clause-nonzero
+joined-requires-clause-nonzero c =
+    subst (λ ts. AllNonZero ts) (sym (c.deref.ensures.value ∙ c.in_ok-terms.ensures)) (nonzero_all c.args.left.now c.args.right.now (nonzero_of _ c.requires.left) (nonzero_of _ c.requires.right))
+
+pub joined-requires-clause-small : goal.joined-requires-clause-small
+joined-requires-clause-small c =
+    omega (arith, ap (λ (ts : List Term). norm ts) (c.deref.ensures.value ∙ c.in_ok-terms.ensures), norm_all c.args.left.now c.args.right.now, c.requires.small)
+
+pub returns : goal.returns
+returns c =
+    let e = ap (λ (ts : List Term). plus ts []) (c.deref.ensures.value ∙ c.in_ok-terms.ensures) ∙ sym (times_all c.args.left.now c.args.right.now (nonzero_of _ c.requires.left) (nonzero_of _ c.requires.right)) in
+    subst (λ ts. IfOk c.joined.result (λ out. out.items ≡ ts)) e c.joined.ensures

@@ -1,0 +1,22 @@
+-- The products of two polynomials' terms, before equal monomials are joined.
+use Rattle.std.specs.Prelude.{◌≢◌, pos, ◌*ℤ◌, List, [], ◌∷◌, ◌++◌}
+use Rattle.mm_poly.specs.declared.term.Term.{Term}
+use Rattle.mm_poly.specs.Mono.{mono_times}
+
+abbrev pub term_times : Term → Term → Term
+term_times t u = record { coeff = t.coeff *ℤ u.coeff; mono = mono_times t.mono u.mono }
+
+-- a term times each term
+abbrev pub term_products : Term → List Term → List Term
+term_products t [] = []
+term_products t (u ∷ us) = term_times t u ∷ term_products t us
+
+-- each term of one times each term of the other
+abbrev pub all_products : List Term → List Term → List Term
+all_products [] q = []
+all_products (t ∷ p) q = term_products t q ++ all_products p q
+
+-- no coefficient is 0
+abbrev pub AllNonZero : List Term → Type 0
+AllNonZero [] = Unit {0}
+AllNonZero (t ∷ ts) = (t.coeff ≢ pos 0) × AllNonZero ts
