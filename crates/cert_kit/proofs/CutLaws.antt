@@ -1,15 +1,15 @@
 -- The cut of a row holds wherever the row does.
-use Rattle.std.specs.Prelude.{◌≡◌, ◌≢◌, ℕ, zero, suc, ◌<◌, ◌%◌, ◌==◌, ℤ, pos, ◌≤ℤ◌, unsigned_abs, List, Bool, true, false, cond, refl}
-use Rattle.std.proofs.Common.{ap, sym, ◌∙◌, subst, arith}
+use Rattle.std.specs.Prelude.{◌≡◌, ℕ, zero, suc, ◌<◌, ◌==◌, ℤ, List, Bool, true, false, cond, refl}
+use Rattle.std.proofs.Common.{ap, arith}
 use Rattle.mm_poly.specs.declared.term.Term.{Term}
-use Rattle.mm_poly.specs.Poly.{value, content, without_constant, constant_part}
+use Rattle.mm_poly.specs.Poly.{value, content, without_constant}
 use Rattle.mm_poly.proofs.CutLaws as cuts
 use Rattle.mm_poly.proofs.CutLaws.{DividesAll, content_divides, constant_divided, cut_zero}
 use Rattle.cert_kit.specs.declared.row.Op.{Op}
 use Rattle.cert_kit.specs.declared.row.Op.TheVariants.{Ge, Eq}
 use Rattle.cert_kit.specs.declared.row.PRow.{PRow}
 use Rattle.cert_kit.specs.Row.{Compares, Holds}
-use Rattle.cert_kit.specs.Cut.{contradiction, divided, cut_by, cut_of}
+use Rattle.cert_kit.specs.Cut.{cut_by, cut_of}
 
 test_is : (n : ℕ) → n ≡ 0 → (n == 0) ≡ true
 test_is n h = grind arith

@@ -1,14 +1,12 @@
 -- A row that is constant and false has one term.
-use Rattle.std.specs.Prelude.{◌≡◌, ◌≢◌, ℕ, ℤ, pos, List, [], ◌∷◌, length, Bool, true, false, cond, not, ◌&&◌, int_lt, refl, Option, Some, None, slice_get}
-use Rattle.std.proofs.Common.{ap, sym, ◌∙◌, subst, arith}
-use Rattle.std.specs.declared.cmp.Ordering.{Ordering}
-use Rattle.std.specs.declared.cmp.Ordering.TheVariants.{Less, Equal, Greater}
+use Rattle.std.specs.Prelude.{◌≡◌, ◌≢◌, ℕ, List, [], ◌∷◌, length, Bool, true, false, ◌&&◌, refl, Some, slice_get}
+use Rattle.std.proofs.Common.{ap, arith}
+use Rattle.std.specs.declared.cmp.Ordering.TheVariants.{Less}
 use Rattle.mm_poly.specs.declared.term.Term.{Term}
 use Rattle.mm_poly.specs.Mono.{mono_cmp, is_constant}
-use Rattle.mm_poly.specs.Poly.{IsPoly, AllAfter, constant_part, without_constant}
+use Rattle.mm_poly.specs.Poly.{IsPoly, constant_part, without_constant}
 use Rattle.cert_kit.specs.declared.row.Op.{Op}
 use Rattle.cert_kit.specs.declared.row.Op.TheVariants.{Ge, Eq}
-use Rattle.cert_kit.specs.declared.row.PRow.{PRow}
 use Rattle.cert_kit.specs.Row.{is_false_constant, has_no_terms, is_false}
 
 constant_is : (m : List (ℕ × ℕ)) → is_constant m ≡ true → m ≡ []

@@ -1,5 +1,5 @@
 -- A certificate has no fault exactly where the rules accept it and each of its nodes is within its bounds.
-use Rattle.std.specs.Prelude.{◌≡◌, ℕ, ℤ, pos, ◌+ℤ◌, List, [], ◌∷◌, length, map, Bool, true, false, cond, ◌&&◌, ◌==◌, refl, Option, Some, None, Result, Ok, Err}
+use Rattle.std.specs.Prelude.{◌≡◌, ℤ, pos, ◌+ℤ◌, List, [], ◌∷◌, length, map, Bool, true, false, ◌&&◌, refl, Option, Some, None, Result, Ok, Err}
 use Rattle.std.proofs.Common.{ap, sym, ◌∙◌, subst}
 use Rattle.std.proofs.lemmas.List.{length-map}
 use Rattle.std.specs.Option.{option_map_or}
@@ -8,19 +8,18 @@ use Rattle.cert_kit.specs.declared.node.Fault.{Fault}
 use Rattle.cert_kit.specs.declared.node.Fault.TheVariants.{Rule, Bound}
 use Rattle.cert_kit.specs.declared.node.Node.{Node}
 use Rattle.cert_kit.specs.declared.row.PRow.{PRow}
-use Rattle.cert_kit.specs.declared.cert.Psatz.{Psatz}
 use Rattle.cert_kit.specs.declared.cert.Step.{Step}
 use Rattle.cert_kit.specs.declared.cert.Step.TheVariants.{Rat, Cut}
 use Rattle.cert_kit.specs.declared.cert.Cert.{Cert}
 use Rattle.cert_kit.specs.declared.cert.Close.{Close}
 use Rattle.cert_kit.specs.declared.cert.Close.TheOpen.{Close-F, Cert-F}
 use Rattle.cert_kit.specs.declared.cert.Close.TheViews.{roll-Close, roll-Cert}
-use Rattle.cert_kit.specs.declared.cert.Close.TheFolds.{map-Close, map-Cert, fold-Close, fold-Cert, fold-roll-Cert, fold-roll-Close, ind-Cert}
+use Rattle.cert_kit.specs.declared.cert.Close.TheFolds.{map-Close, map-Cert, fold-Close, fold-roll-Cert, fold-roll-Close, ind-Cert}
 use Rattle.cert_kit.specs.Cut.{cut_of}
 use Rattle.cert_kit.specs.Meaning.{◌>>=◌, Measure, meaning, measure, own_bounds, are_within, at_least_0}
-use Rattle.cert_kit.specs.Acceptance.{with_row, step_row, rows_after, ends_false, below_0, below_bounds, Range, range_of, values_of, value_row, Accepting, all_accept, accepts_range, enum_range, accepting_close, accepting_cert, accepts, step_within, steps_within, all_within, within_close, within_cert, is_within, IsGood}
-use Rattle.cert_kit.specs.FirstFault.{◌>>=◌ as ◌>>>◌, walk, step_walk, steps_walk, Faulting, or_else, unless, first_of_all, after_walk, range_fault, fault_close, fault_cert, first_fault, bounds_of}
-use Rattle.cert_kit.proofs.MeaningLaws.{bind_some, some_is}
+use Rattle.cert_kit.specs.Acceptance.{with_row, step_row, rows_after, ends_false, below_0, below_bounds, Range, range_of, value_row, Accepting, all_accept, accepts_range, accepting_close, accepting_cert, accepts, step_within, steps_within, all_within, within_close, within_cert, is_within, IsGood}
+use Rattle.cert_kit.specs.FirstFault.{◌>>=◌ as ◌>>>◌, walk, step_walk, steps_walk, Faulting, or_else, unless, first_of_all, after_walk, range_fault, fault_close, fault_cert, first_fault}
+use Rattle.cert_kit.proofs.MeaningLaws.{bind_some}
 use Rattle.cert_kit.proofs.RangeLaws.{both}
 use Rattle.cert_kit.proofs.WalkLaws.{Agrees, walk_agrees}
 

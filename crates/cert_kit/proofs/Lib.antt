@@ -6,3 +6,4 @@ pub mod CutLaws
 pub mod SoundLaws
 pub mod WalkLaws
 pub mod FaultLaws
+pub mod QuotientLaws

@@ -1,10 +1,10 @@
 -- What an expression means holds wherever the rows do.
-use Rattle.std.specs.Prelude.{◌≡◌, ℕ, zero, suc, ◌<◌, ◌-◌, ℤ, pos, ◌+ℤ◌, ◌*ℤ◌, ◌≤ℤ◌, List, [], ◌∷◌, ◌++◌, length, Bool, true, false, cond, int_le, refl, Option, Some, None, slice_get}
+use Rattle.std.specs.Prelude.{◌≡◌, ℕ, zero, suc, ℤ, pos, List, [], ◌∷◌, Bool, true, false, cond, int_le, refl, Option, Some, None, slice_get}
 use Rattle.std.proofs.Common.{ap, sym, ◌∙◌, subst, arith}
 use Rattle.std.proofs.lemmas.Int.{ints}
 use Rattle.mm_num.proofs.Ring.{square_nonneg}
 use Rattle.mm_poly.specs.declared.term.Term.{Term}
-use Rattle.mm_poly.specs.Poly.{value, plus, times, constant_of}
+use Rattle.mm_poly.specs.Poly.{value, times, constant_of}
 use Rattle.mm_poly.proofs.ValueLaws.{value_plus, value_times, value_constant}
 use Rattle.cert_kit.specs.declared.row.Op.{Op}
 use Rattle.cert_kit.specs.declared.row.Op.TheVariants.{Ge, Eq}
@@ -14,7 +14,7 @@ use Rattle.cert_kit.specs.declared.cert.Psatz.TheOpen.{Psatz-F}
 use Rattle.cert_kit.specs.declared.cert.Psatz.TheViews.{roll-Psatz}
 use Rattle.cert_kit.specs.declared.cert.Psatz.TheFolds.{map-Psatz, fold-roll-Psatz, ind-Psatz}
 use Rattle.cert_kit.specs.Row.{Compares, Holds, Solves}
-use Rattle.cert_kit.specs.Meaning.{◌>>=◌, Meaning, meaning, meaning_step, product_row, sum_row, multiple_row, constant_row, at_least_0, equal_to_0}
+use Rattle.cert_kit.specs.Meaning.{◌>>=◌, Meaning, meaning, meaning_step, product_row, sum_row, multiple_row, constant_row, at_least_0}
 use Rattle.cert_kit.proofs.RowLaws.{sum_compares, product_compares, multiple_is_0}
 
 -- what comes of a bind comes of its part

@@ -1,24 +1,20 @@
 -- A polynomial lies in the range that two inequalities give.
-use Rattle.std.specs.Prelude.{◌≡◌, ℕ, zero, suc, ◌+◌, ◌<◌, ◌-◌, ℤ, pos, negsuc, neg_ℤ, ◌+ℤ◌, ◌-ℤ◌, ◌*ℤ◌, ◌≤ℤ◌, ◌<ℤ◌, List, [], ◌∷◌, Bool, true, false, cond, ◌&&◌, refl, Option, Some, None}
+use Rattle.std.specs.Prelude.{◌≡◌, ℕ, ℤ, pos, negsuc, neg_ℤ, ◌+ℤ◌, ◌-ℤ◌, ◌*ℤ◌, ◌≤ℤ◌, ◌<ℤ◌, List, [], ◌∷◌, Bool, true, false, cond, ◌&&◌, refl, Some, None}
 use Rattle.std.proofs.Common.{ap, sym, ◌∙◌, subst, arith}
 use Rattle.std.proofs.lemmas.Int.{ints}
-use Rattle.std.specs.Ordering.{int_eq, is_eq, int_cmp}
+use Rattle.std.specs.Ordering.{int_eq, is_eq}
 use Rattle.std.specs.declared.cmp.Ordering.{Ordering}
 use Rattle.std.specs.declared.cmp.Ordering.TheVariants.{Less, Equal, Greater}
 use Rattle.mm_num.proofs.Ring.{neg_mul}
 use Rattle.mm_poly.specs.declared.term.Term.{Term}
-use Rattle.mm_poly.specs.Mono.{mono_value, mono_cmp, is_constant}
-use Rattle.mm_poly.specs.Poly.{value, term_value, constant_part, without_constant, plus, scaled, constant_of}
+use Rattle.mm_poly.specs.Mono.{mono_value}
+use Rattle.mm_poly.specs.Poly.{value, constant_part, without_constant, scaled, constant_of}
 use Rattle.mm_poly.proofs.ValueLaws.{value_plus, value_scaled, value_constant}
 use Rattle.mm_poly.proofs.OrderLaws.{mono_exact}
 use Rattle.mm_poly.proofs.CutLaws.{value_parts}
-use Rattle.cert_kit.specs.declared.row.Op.{Op}
-use Rattle.cert_kit.specs.declared.row.Op.TheVariants.{Ge, Eq}
-use Rattle.cert_kit.specs.declared.row.PRow.{PRow}
-use Rattle.cert_kit.specs.Row.{Compares, Holds}
+use Rattle.cert_kit.specs.Row.{Holds}
 use Rattle.cert_kit.proofs.MeaningLaws.{some_is}
-use Rattle.cert_kit.specs.Cut.{cut_of}
-use Rattle.cert_kit.specs.Acceptance.{is_opposite, Range, range_between, range_by, range_of, values_of, not_below_0, value_row, below_0}
+use Rattle.cert_kit.specs.Acceptance.{is_opposite, Range, range_between, values_of, not_below_0, value_row, below_0}
 
 -- both of two tests
 pub both : (a b : Bool) → (a && b) ≡ true → (a ≡ true) × (b ≡ true)

@@ -1,15 +1,11 @@
 -- What rows of one value do.
-use Rattle.std.specs.Prelude.{◌≡◌, ◌≢◌, ℕ, ℤ, pos, ◌+ℤ◌, ◌*ℤ◌, ◌≤ℤ◌, ◌<ℤ◌, List, [], ◌∷◌, ◌++◌, Bool, true, false, not, ◌&&◌, int_lt, refl, Option, Some, None, slice_get}
-use Rattle.std.proofs.Common.{ap, sym, ◌∙◌, subst, arith}
+use Rattle.std.specs.Prelude.{◌≡◌, ℤ, pos, ◌+ℤ◌, ◌*ℤ◌, true}
+use Rattle.std.proofs.Common.{arith}
 use Rattle.std.proofs.lemmas.Int.{ints}
-use Rattle.std.specs.Ordering.{int_eq}
-use Rattle.mm_num.proofs.Ring.{square_nonneg, product_nonneg}
-use Rattle.mm_poly.specs.declared.term.Term.{Term}
-use Rattle.mm_poly.specs.Poly.{value, constant_part, without_constant}
+use Rattle.mm_num.proofs.Ring.{product_nonneg}
 use Rattle.cert_kit.specs.declared.row.Op.{Op}
 use Rattle.cert_kit.specs.declared.row.Op.TheVariants.{Ge, Eq}
-use Rattle.cert_kit.specs.declared.row.PRow.{PRow}
-use Rattle.cert_kit.specs.Row.{Compares, Holds, Solves, is_false_constant, has_no_terms, is_false}
+use Rattle.cert_kit.specs.Row.{Compares, is_false_constant}
 use Rattle.cert_kit.specs.Meaning.{product_op, sum_op}
 
 -- the sum of two values compares as its operation says

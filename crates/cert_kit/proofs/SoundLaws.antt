@@ -1,10 +1,9 @@
 -- No integer point solves rows over which the rules accept a certificate.
-use Rattle.std.specs.Prelude.{◌≡◌, ℕ, zero, suc, ◌+◌, ◌<◌, ◌-◌, ℤ, pos, negsuc, neg_ℤ, ◌+ℤ◌, ◌*ℤ◌, ◌≤ℤ◌, ◌<ℤ◌, List, [], ◌∷◌, ◌++◌, length, map, Bool, true, false, cond, ◌&&◌, ◌==◌, refl, Option, Some, None, slice_get}
-use Rattle.std.proofs.Common.{ap, sym, ◌∙◌, subst, arith, ◌⊎◌, inl, inr}
+use Rattle.std.specs.Prelude.{◌≡◌, ℕ, ◌-◌, ℤ, pos, ◌+ℤ◌, ◌≤ℤ◌, ◌<ℤ◌, List, [], ◌∷◌, length, map, Bool, true, false, ◌==◌, refl, Option, Some, None, slice_get}
+use Rattle.std.proofs.Common.{ap, sym, ◌∙◌, subst, arith}
 use Rattle.std.proofs.lemmas.Int.{ints, by_lt_z}
 use Rattle.std.proofs.lemmas.List.{length-map}
 use Rattle.std.specs.Option.{option_map_or}
-use Rattle.std.specs.List.{AllByRecursion}
 use Rattle.mm_poly.specs.declared.term.Term.{Term}
 use Rattle.mm_poly.specs.Poly.{value, without_constant, constant_part}
 use Rattle.mm_poly.proofs.CutLaws.{value_parts}
@@ -18,11 +17,11 @@ use Rattle.cert_kit.specs.declared.cert.Cert.{Cert}
 use Rattle.cert_kit.specs.declared.cert.Close.{Close}
 use Rattle.cert_kit.specs.declared.cert.Close.TheOpen.{Close-F, Cert-F}
 use Rattle.cert_kit.specs.declared.cert.Close.TheViews.{roll-Close, roll-Cert}
-use Rattle.cert_kit.specs.declared.cert.Close.TheFolds.{map-Close, map-Cert, fold-Close, fold-Cert, fold-roll-Cert, fold-roll-Close, ind-Cert}
-use Rattle.cert_kit.specs.Row.{Compares, Holds, Solves, HasNoSolution, has_no_terms, is_false_constant, is_false}
+use Rattle.cert_kit.specs.declared.cert.Close.TheFolds.{map-Close, map-Cert, fold-Close, fold-roll-Cert, fold-roll-Close, ind-Cert}
+use Rattle.cert_kit.specs.Row.{Compares, Holds, Solves, HasNoSolution, has_no_terms, is_false}
 use Rattle.cert_kit.specs.Cut.{cut_of}
-use Rattle.cert_kit.specs.Meaning.{◌>>=◌, meaning, at_least_0}
-use Rattle.cert_kit.specs.Acceptance.{with_row, step_row, rows_after, ends_false, below_0, Range, range_by, range_of, values_of, value_row, Accepting, all_accept, accepts_range, enum_range, accepting_close, accepting_cert, accepts}
+use Rattle.cert_kit.specs.Meaning.{meaning, at_least_0}
+use Rattle.cert_kit.specs.Acceptance.{with_row, step_row, rows_after, ends_false, below_0, Range, range_by, values_of, value_row, Accepting, all_accept, accepts_range, enum_range, accepting_close, accepting_cert, accepts}
 use Rattle.cert_kit.proofs.RowLaws.{false_constant}
 use Rattle.cert_kit.proofs.MeaningLaws.{bind_some, some_is, row_holds, meaning_holds}
 use Rattle.cert_kit.proofs.RangeLaws.{both, IsIn, in_between, count_reaches, value_row_holds, below_holds}

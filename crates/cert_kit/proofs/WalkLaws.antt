@@ -1,15 +1,12 @@
 -- A walk through an expression ends without fault exactly where the expression means a row and each of its nodes is
 -- within its bounds.
-use Rattle.std.specs.Prelude.{◌≡◌, ℕ, ℤ, List, [], ◌∷◌, Bool, true, false, cond, ◌&&◌, refl, Option, Some, None, Result, Ok, Err, slice_get}
-use Rattle.std.proofs.Common.{ap, sym, ◌∙◌, subst}
+use Rattle.std.specs.Prelude.{◌≡◌, List, [], Bool, true, false, cond, ◌&&◌, refl, Option, Some, None, Result, Ok, Err, slice_get}
+use Rattle.std.proofs.Common.{ap, subst}
 use Rattle.std.specs.Option.{option_map_or}
-use Rattle.mm_poly.specs.declared.term.Term.{Term}
 use Rattle.mm_poly.specs.Poly.{times}
 use Rattle.cert_kit.specs.declared.node.Fault.{Fault}
-use Rattle.cert_kit.specs.declared.node.Fault.TheVariants.{Rule, Bound}
+use Rattle.cert_kit.specs.declared.node.Fault.TheVariants.{Bound}
 use Rattle.cert_kit.specs.declared.node.Node.{Node}
-use Rattle.cert_kit.specs.declared.row.Op.{Op}
-use Rattle.cert_kit.specs.declared.row.Op.TheVariants.{Ge, Eq}
 use Rattle.cert_kit.specs.declared.row.PRow.{PRow}
 use Rattle.cert_kit.specs.declared.cert.Psatz.{Psatz}
 use Rattle.cert_kit.specs.declared.cert.Psatz.TheOpen.{Psatz-F}
@@ -17,7 +14,7 @@ use Rattle.cert_kit.specs.declared.cert.Psatz.TheViews.{roll-Psatz}
 use Rattle.cert_kit.specs.declared.cert.Psatz.TheFolds.{map-Psatz, fold-roll-Psatz, ind-Psatz}
 use Rattle.cert_kit.specs.Meaning.{◌>>=◌, Meaning, meaning, meaning_step, Bounds, Measure, Measuring, measure, measure_step, measure_of, own_bounds, no_bounds, constant_bounds, product_bounds, sum_bounds, are_within, product_row, sum_row, multiple_row, constant_row, at_least_0, equal_to_0}
 use Rattle.cert_kit.specs.FirstFault.{◌>>=◌ as ◌>>>◌, Walk, walk, walk_step, node_of, bounds_of, tested, tested_rule, row_at}
-use Rattle.cert_kit.proofs.MeaningLaws.{bind_some, some_is}
+use Rattle.cert_kit.proofs.MeaningLaws.{bind_some}
 use Rattle.cert_kit.proofs.RangeLaws.{both}
 
 -- what a walk ends with is what the expression means and measures

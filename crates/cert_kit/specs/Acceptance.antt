@@ -13,7 +13,7 @@ use Rattle.cert_kit.specs.declared.cert.Step.{Step}
 use Rattle.cert_kit.specs.declared.cert.Step.TheVariants.{Rat, Cut}
 use Rattle.cert_kit.specs.declared.cert.Cert.{Cert}
 use Rattle.cert_kit.specs.declared.cert.Close.TheOpen.{Close-F, Cert-F}
-use Rattle.cert_kit.specs.declared.cert.Close.TheFolds.{fold-Close, fold-Cert}
+use Rattle.cert_kit.specs.declared.cert.Close.TheFolds.{fold-Cert}
 use Rattle.cert_kit.specs.Row.{is_false}
 use Rattle.cert_kit.specs.Cut.{cut_of}
 use Rattle.cert_kit.specs.Meaning.{◌>>=◌, meaning, measure, Bounds, own_bounds, are_within, at_least_0, equal_to_0}

@@ -1,5 +1,5 @@
 -- How deep expressions and certificates are nested, and which constants stand in them.
-use Rattle.std.specs.Prelude.{◌≡◌, ℕ, ◌+◌, ◌^◌, ◌≤◌, max, ℤ, pos, unsigned_abs, List, [], ◌∷◌, Bool, true, false, ◌&&◌, nat_lt, int_le}
+use Rattle.std.specs.Prelude.{◌≡◌, ℕ, ◌+◌, ◌^◌, ◌≤◌, max, ℤ, pos, unsigned_abs, List, [], ◌∷◌, Bool, true, ◌&&◌, nat_lt, int_le}
 use Rattle.cert_kit.specs.declared.cert.Psatz.{Psatz}
 use Rattle.cert_kit.specs.declared.cert.Psatz.TheOpen.{Psatz-F}
 use Rattle.cert_kit.specs.declared.cert.Psatz.TheFolds.{fold-Psatz}

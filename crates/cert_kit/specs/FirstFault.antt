@@ -1,8 +1,8 @@
 -- The first fault of a certificate: steps in order, an expression's operands first and from left to right, then the
 -- close and its members in order; at each node the rule first, and then the bounds.
-use Rattle.std.specs.Prelude.{ℕ, ◌+◌, ◌*◌, max, ℤ, pos, int_le, unsigned_abs, ◌+ℤ◌, List, [], ◌∷◌, length, Bool, true, false, ◌&&◌, ◌==◌, Option, Some, None, Result, Ok, Err, slice_get, if◌then◌else◌}
+use Rattle.std.specs.Prelude.{ℤ, pos, ◌+ℤ◌, List, [], ◌∷◌, length, Bool, true, false, ◌&&◌, ◌==◌, Option, Some, None, Result, Ok, Err, slice_get, if◌then◌else◌}
 use Rattle.mm_poly.specs.declared.term.Term.{Term}
-use Rattle.mm_poly.specs.Poly.{norm, spread, degree, times, constant_of}
+use Rattle.mm_poly.specs.Poly.{times}
 use Rattle.cert_kit.specs.declared.node.Fault.{Fault}
 use Rattle.cert_kit.specs.declared.node.Fault.TheVariants.{Rule, Bound}
 use Rattle.cert_kit.specs.declared.node.Node.{Node}

@@ -1,5 +1,5 @@
 -- What an expression means over a list of rows, and its three bounds.
-use Rattle.std.specs.Prelude.{ℕ, ◌+◌, ◌*◌, ◌^◌, ℤ, pos, max, unsigned_abs, List, [], Bool, true, false, nat_lt, nat_le, int_le, ◌&&◌, Option, Some, None, slice_get, if◌then◌else◌}
+use Rattle.std.specs.Prelude.{ℕ, ◌+◌, ◌*◌, ◌^◌, ℤ, pos, max, unsigned_abs, List, [], Bool, true, nat_lt, nat_le, int_le, ◌&&◌, Option, Some, None, slice_get, if◌then◌else◌}
 use Rattle.std.specs.Option.{option_map_or}
 use Rattle.mm_poly.specs.declared.term.Term.{Term}
 use Rattle.mm_poly.specs.Poly.{norm, spread, degree, plus, times, constant_of}

@@ -7,12 +7,15 @@
 
 mod cert;
 mod constants;
+mod copy;
+mod cut;
 mod law;
 mod nesting;
 mod node;
 mod row;
 
 pub use cert::{Cert, Close, Psatz, Step};
+pub use cut::{constant_term, cut_row};
 pub use law::{faultless, soundness};
 pub use nesting::depth;
 pub use node::{Fault, Node};

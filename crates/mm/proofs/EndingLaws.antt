@@ -6,23 +6,23 @@ use Rattle.cert_kit.specs.declared.row.PRow.{PRow}
 use Rattle.cert_kit.specs.declared.cert.Cert.{Cert}
 use Rattle.cert_kit.proofs.FaultLaws.{no_fault_good}
 use Rattle.cert_kit.proofs.SoundLaws.{accepted_sound}
-use Rattle.mm.specs.declared.checker.Verdict.TheVariants.{Accepted, Rejected, Size}
+use Rattle.cert_check.specs.declared.checking.Verdict.TheVariants.{Accepted, Rejected, Size}
 use Rattle.mm.specs.declared.ending.Ending.{Ending}
 use Rattle.mm.specs.declared.ending.Ending.TheVariants.{Usage, TooLong, Bad, Checked}
 use Rattle.mm.specs.declared.top.RunFail.{RunFail}
 use Rattle.mm.specs.Ending.{IsCheckWord, TextCallsFor, CallsFor, status_of, IsUnsolvable, HasVerdict}
-use Rattle.mm.proofs.VerdictLaws.{accepted_is}
+use Rattle.cert_check.proofs.VerdictLaws.{accepted_is}
 
 unknown_due : (words : List (List ℕ)) (bytes : List ℕ) (e : Ending) → IsCheckWord words → TextCallsFor bytes e → CallsFor words None e
 unknown_due words bytes Usage w t = absurd t
 unknown_due words bytes TooLong w t = (w, tt)
-unknown_due words bytes Bad w t = (w, tt)
+unknown_due words bytes (Bad at) w t = (w, tt)
 unknown_due words bytes (Checked v) w t = (w, tt)
 
 known_due : (words : List (List ℕ)) (bytes : List ℕ) (e : Ending) → IsCheckWord words → TextCallsFor bytes e → CallsFor words (Some bytes) e
 known_due words bytes Usage w t = absurd t
 known_due words bytes TooLong w t = (w, t)
-known_due words bytes Bad w t = (w, t)
+known_due words bytes (Bad at) w t = (w, t)
 known_due words bytes (Checked v) w t = (w, t)
 
 all_read : (xs bytes ys : List ℕ) → xs ≡ bytes ++ ys → ys ≡ [] → bytes ≡ xs
@@ -50,7 +50,7 @@ ending_sound words (Some bytes) (Checked Rejected) c s = absurd (omega (arith, s
 ending_sound words (Some bytes) (Checked Size) c s = absurd (omega (arith, s))
 ending_sound words (Some bytes) Usage c s = absurd (omega (arith, s))
 ending_sound words (Some bytes) TooLong c s = absurd (omega (arith, s))
-ending_sound words (Some bytes) Bad c s = absurd (omega (arith, s))
+ending_sound words (Some bytes) (Bad at) c s = absurd (omega (arith, s))
 
 -- a list of one
 pub lone : {A B : Type 0} (f : A → B) (xs : List A) (x : A) → length xs ≡ 1 → x ≡ get_or xs 0 x → map f xs ≡ f x ∷ []

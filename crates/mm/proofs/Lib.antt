@@ -1,12 +1,1 @@
-pub mod WordLaws
-pub mod NumberLaws
-pub mod LimitLaws
-pub mod ManyLaws
-pub mod TermLaws
-pub mod RowLaws
-pub mod CertLaws
-pub mod CheckLaws
-pub mod LoopSteps
-pub mod CoverLaws
-pub mod VerdictLaws
 pub mod EndingLaws

@@ -3,10 +3,8 @@
 //! `run` is the whole program over any source, sink, disks and gate; `main` hands it the real ones.
 #![tactic(auto)]
 
-mod checker;
 mod ending;
 mod stream;
-mod text;
 mod top;
 
 use mm_io::{Gate, MemDisk};

@@ -51,133 +51,165 @@ fn outcome(
     })
 }
 
-const HALF: &str = "row x0 - 1 >= 0\nrow -x0 >= 0\n";
-
-const GREATEST: &str = "row 85070591730234615865843651857942052863*x0 >= 0\n";
-
-const NEAR: &str = "row 42535295865117307932921825928971026431*x0 >= 0\n";
-
-const MIDDLE: &str = "row 42535295865117307932921825928971026432*x0 >= 0\n";
-
-const BACK: &str = "row -42535295865117307932921825928971026432*x0 >= 0\n";
-
-// Rows, more rows, a certificate, and the line and the status that are due.
-const VERDICTS: [(&str, &str, &str, &str, u8); 23] = [
-    (HALF, "", "rat add(in 0, in 1); done", "accepted\n", 0),
-    (HALF, "", "rat in 0; done", "rejected\n", 1),
-    ("", "", "done", "rejected\n", 1),
-    ("row 0 >= 0\n", "", "done", "rejected\n", 1),
-    ("row -1 >= 0\n", "", "done", "accepted\n", 0),
-    ("row 0 = 0\n", "", "done", "rejected\n", 1),
-    ("row 1 = 0\n", "", "done", "accepted\n", 0),
-    ("row -1 >= 0\n", "row x0 >= 0\n", "done", "rejected\n", 1),
-    (HALF, "", "rat in 2; done", "rejected\n", 1),
-    (
-        HALF,
-        "",
-        "rat add(in 0, in 1); rat in 2; done",
-        "accepted\n",
-        0,
-    ),
-    (
-        HALF,
-        "",
-        "rat add(in 0, in 1); rat in 3; done",
-        "rejected\n",
-        1,
-    ),
-    (
-        "row x0 - 1 = 0\n",
-        "row -x0 >= 0\n",
-        "rat add(in 0, in 1); done",
-        "accepted\n",
-        0,
-    ),
-    (
-        "row x0 + 1 = 0\n",
-        "row -x0 = 0\n",
-        "rat add(in 0, in 1); done",
-        "accepted\n",
-        0,
-    ),
-    (
-        "row x0 + 1 = 0\n",
-        "row -x0 >= 0\n",
-        "rat add(in 0, in 1); done",
-        "rejected\n",
-        1,
-    ),
-    (GREATEST, "", "rat add(in 0, in 0); done", "size\n", 1),
-    (NEAR, "", "rat add(in 0, in 0); done", "rejected\n", 1),
-    (NEAR, MIDDLE, "rat add(in 0, in 1); done", "rejected\n", 1),
-    (MIDDLE, "", "rat add(in 0, in 0); done", "size\n", 1),
-    (MIDDLE, BACK, "rat add(in 0, in 1); done", "size\n", 1),
-    (
-        GREATEST,
-        "",
-        "rat add(in 0, in 0); rat in 9; done",
-        "size\n",
-        1,
-    ),
-    (
-        GREATEST,
-        "",
-        "rat in 9; rat add(in 0, in 0); done",
-        "rejected\n",
-        1,
-    ),
-    (
-        GREATEST,
-        "",
-        "rat add(add(in 0, in 0), in 9); done",
-        "size\n",
-        1,
-    ),
-    (
-        GREATEST,
-        "",
-        "rat add(in 9, add(in 0, in 0)); done",
-        "rejected\n",
-        1,
-    ),
-];
+// A case on each line: rows, a certificate, and the word that is due.
+const CASES: &str = "\
+-1 >= 0 | rat in 0; done | accepted
+-1 >= 0 | rat in 1; done | rejected
+x0 >= 0 | rat in 4294967295; done | rejected
+1 = 0 | rat in 0; done | accepted
+ | done | rejected
+-1 >= 0 | done | accepted
+0 >= 0 | done | rejected
+0 = 0 | done | rejected
+-1 >= 0; x0 >= 0 | done | rejected
+x0 - 1 >= 0 | done | rejected
+-x0^2 - 1 >= 0 | rat add(in 0, square(x0)); done | accepted
+-x0^2 - 2*x0*x1 - x1^2 - 1 >= 0 | rat add(in 0, square(x0 + x1)); done | accepted
+-x0^2 - x1^2 - 1 >= 0 | rat add(in 0, square(x0 + x1)); done | rejected
+ | rat square(x0); done | rejected
+-1 >= 0 | rat square(x0^127); rat in 0; done | accepted
+-1 >= 0 | rat square(x0^128); rat in 0; done | size
+-1 >= 0 | rat square(9223372036854775807*x0); rat in 0; done | accepted
+-1 >= 0 | rat square(9223372036854775808*x0); rat in 0; done | size
+-1 = 0 | rat add(in 0, square(0)); done | accepted
+1 = 0 | rat add(in 0, square(0)); done | rejected
+x0 - 1 = 0; -x0 >= 0 | rat add(mulp(1, in 0), in 1); done | accepted
+2*x0 - 1 = 0; x0 = 0 | rat add(in 0, mulp(-2, in 1)); done | accepted
+x0 = 0; x0*x1 - 1 = 0 | rat add(in 1, mulp(-x1, in 0)); done | accepted
+x0 = 0; x0*x1 + 1 >= 0 | rat add(in 1, mulp(-x1, in 0)); done | rejected
+-1 >= 0 | rat mulp(2, in 0); done | rejected
+x0 >= 0 | rat mulp(85070591730234615865843651857942052863, mul(const 2, in 0)); done | rejected
+x0 = 0 | rat mulp(85070591730234615865843651857942052863, mul(const 2, in 0)); done | size
+x0^128 = 0; -1 >= 0 | rat mulp(x0^127, in 0); rat in 1; done | accepted
+x0^128 = 0; -1 >= 0 | rat mulp(x0^128, in 0); rat in 1; done | size
+-1 >= 0 | rat mul(const 3, in 0); done | accepted
+x0 >= 0; x1 >= 0; -x0*x1 - 1 >= 0 | rat add(mul(in 0, in 1), in 2); done | accepted
+x0 = 0; x1 >= 0; -x0*x1 + 1 = 0 | rat add(mul(in 0, in 1), in 2); done | accepted
+x0 >= 0; x1 >= 0; -x0*x1 + 1 = 0 | rat add(mul(in 0, in 1), in 2); done | rejected
+x0 >= 0 | rat mul(const 9223372036854775808, const 9223372036854775808); done | size
+-1 >= 0 | rat mul(const 9223372036854775808, const 9223372036854775807); rat in 0; done | accepted
+x0^128 >= 0; -1 >= 0 | rat mul(in 0, in 0); rat in 1; done | size
+x0 - 1 >= 0; -x0 >= 0 | rat add(in 0, in 1); done | accepted
+x0 + 1 = 0; -x0 = 0 | rat add(in 0, in 1); done | accepted
+x0 + 1 = 0; -x0 >= 0 | rat add(in 0, in 1); done | rejected
+42535295865117307932921825928971026432*x0 >= 0; -42535295865117307932921825928971026432*x0 - 1 >= 0 | rat add(in 0, in 1); done | size
+42535295865117307932921825928971026431*x0 >= 0; -42535295865117307932921825928971026431*x0 - 1 >= 0 | rat add(in 0, in 1); done | accepted
+x0 >= 0 | rat add(mul(const 85070591730234615865843651857942052863, const 2), mulp(1, in 0)); done | size
+x0 >= 0 | rat add(mulp(1, in 0), mul(const 85070591730234615865843651857942052863, const 2)); done | rejected
+x0 >= 0; -x0 - 2 >= 0 | rat add(in 0, add(in 1, const 1)); done | accepted
+x0 >= 0; -x0 - 2 >= 0 | rat add(in 0, add(in 1, const 2)); done | rejected
+-1 >= 0 | rat const 85070591730234615865843651857942052863; rat in 0; done | accepted
+ | rat const 1; done | rejected
+-1 >= 0 | rat add(in 0, zero); done | accepted
+1 = 0 | rat add(zero, in 0); done | accepted
+1 >= 0 | rat add(zero, in 0); done | rejected
+ | rat zero; done | rejected
+-1 >= 0; x0 >= 0 | rat mulp(0, zero); rat in 0; done | accepted
+-3 >= 0 | cut in 0; done | accepted
+3 >= 0 | cut in 0; done | rejected
+-3 = 0 | cut in 0; done | accepted
+2*x0 - 4 = 0; -x0 + 1 >= 0 | cut in 0; rat add(in 1, in 2); done | accepted
+2*x0 - 4 = 0 | cut in 0; done | rejected
+2*x0 - 1 = 0 | cut in 0; done | accepted
+3*x0 + 6*x1 + 2 = 0 | cut in 0; done | accepted
+2*x0 - 1 >= 0; -2*x0 + 1 >= 0 | cut in 0; cut in 1; rat add(in 2, in 3); done | accepted
+2*x0 - 1 >= 0; -2*x0 + 1 >= 0 | rat in 0; rat in 1; rat add(in 2, in 3); done | rejected
+2*x0 - 1 >= 0; -x0 + 1 >= 0 | cut in 0; rat add(in 1, in 2); done | rejected
+-x0 - 1 >= 0; x0 >= 0 | split(x0, rat add(in 0, in 2); done, rat add(in 1, in 2); done) | accepted
+-x0 - 1 >= 0; x0 >= 0 | split(x0, rat add(in 1, in 2); done, rat add(in 0, in 2); done) | rejected
+-x0 - 1 >= 0; x0 >= 0 | split(x0, rat add(in 0, in 2); done, done) | rejected
+x0 >= 0 | split(-1, done, done) | rejected
+-1 >= 0 | split(-1, done, rat in 0; done) | accepted
+-1 >= 0 | split(0, rat in 0; done, done) | accepted
+-1 >= 0 | split(85070591730234615865843651857942052863*x0, rat in 0; done, rat in 0; done) | size
+-1 >= 0 | split(85070591730234615865843651857942052862*x0, rat in 0; done, rat in 0; done) | accepted
+-1 >= 0 | split(85070591730234615865843651857942052862*x0 - 1, rat in 0; done, rat in 0; done) | size
+x0 >= 0 | split(85070591730234615865843651857942052863*x0, done, done) | size
+x0 >= 0 | split(x0, done, rat mul(const 85070591730234615865843651857942052863, const 2); done) | rejected
+x0 >= 0 | split(x0, rat mul(const 85070591730234615865843651857942052863, const 2); done, done) | size
+2*x0 - 1 >= 0; -2*x0 + 5 >= 0; x0 - 3 >= 0 | enum(in 0, in 1, rat add(in 2, mulp(-1, in 3)); done, rat add(in 2, mulp(-1, in 3)); done) | accepted
+2*x0 - 1 >= 0; -2*x0 + 5 >= 0; x0 - 3 >= 0 | enum(in 0, in 1, rat add(in 2, mulp(-1, in 3)); done) | rejected
+2*x0 - 1 >= 0; -2*x0 + 5 >= 0; x0 - 3 >= 0 | enum(in 0, in 1, rat add(in 2, mulp(-1, in 3)); done, rat add(in 2, mulp(-1, in 3)); done, rat add(in 2, mulp(-1, in 3)); done) | rejected
+2*x0 - 1 >= 0; -2*x0 + 5 >= 0; x0 - 3 >= 0 | enum(in 1, in 0, rat add(in 2, mulp(-1, in 3)); done, rat add(in 2, mulp(-1, in 3)); done) | rejected
+2*x0 - 1 >= 0; -2*x0 + 5 >= 0; x0 - 3 >= 0 | enum(in 1, in 0, rat add(in 2, in 3); done, rat add(in 2, in 3); done) | accepted
+x0 - 3 >= 0; -x0 + 2 >= 0 | enum(in 0, in 1) | accepted
+x0 - 3 >= 0; -x0 + 2 >= 0 | enum(in 0, in 1, done) | rejected
+x0 - 5 >= 0; -x0 + 1 >= 0 | enum(in 0, in 1) | accepted
+x0 - 2 >= 0; -x0 + 2 >= 0 | enum(in 0, in 1) | rejected
+x0 - 3 = 0; -x0 + 2 >= 0 | enum(in 0, in 1) | rejected
+x0 - 3 >= 0; -x0 + 2 = 0 | enum(in 0, in 1) | rejected
+2*x0 - 1 = 0; -x0 + 2 >= 0 | enum(in 0, in 1) | rejected
+x0 >= 0; -x1 - 1 >= 0 | enum(in 0, in 1) | rejected
+x0 >= 0; -1 >= 0 | enum(in 0, in 1) | rejected
+0 >= 0; -1 >= 0 | enum(in 0, in 0, rat in 1; done) | accepted
+-1 >= 0 | enum(in 0, in 0) | accepted
+2*x0 + 2*x1 - 1 >= 0; -2*x0 - 2*x1 + 3 >= 0; x0 + x1 - 2 = 0 | enum(in 0, in 1, rat add(in 2, mulp(-1, in 3)); done) | accepted
+x0 = 0 | enum(mul(const 85070591730234615865843651857942052863, const 2), in 0) | size
+x0 = 0 | enum(in 0, mul(const 85070591730234615865843651857942052863, const 2)) | size
+x0 >= 0; -x0 + 1 >= 0 | enum(in 0, in 1, rat mul(const 85070591730234615865843651857942052863, const 2); done, done) | size
+x0 >= 0; -x0 + 1 >= 0 | enum(in 0, in 1, done, rat mul(const 85070591730234615865843651857942052863, const 2); done) | rejected
+x0 >= 0; -x0 + 1 >= 0 | enum(in 0, in 1, rat mul(const 85070591730234615865843651857942052863, const 2); done) | rejected
+-11*x0 - 13*x1 + 45 >= 0; -7*x0 + 9*x1 + 4 >= 0; 7*x0 - 9*x1 + 10 >= 0; 11*x0 + 13*x1 - 27 >= 0 | cut add(mul(const 7, in 3), mul(const 11, in 1)); cut add(mul(const 11, in 2), mul(const 7, in 0)); enum(in 4, in 5, cut add(in 3, mulp(-13, in 6)); cut add(in 1, mulp(-9, in 6)); rat add(in 7, in 8); done, cut add(in 0, mulp(13, in 6)); cut add(in 2, mulp(9, in 6)); rat add(in 7, in 8); done) | accepted
+-11*x0 - 13*x1 + 45 >= 0; -7*x0 + 9*x1 + 4 >= 0; 7*x0 - 9*x1 + 10 >= 0; 11*x0 + 13*x1 - 27 >= 0 | cut add(mul(const 7, in 3), mul(const 11, in 1)); cut add(mul(const 11, in 2), mul(const 7, in 0)); enum(in 4, in 5, cut add(in 3, mulp(-13, in 6)); cut add(in 1, mulp(-9, in 6)); rat add(in 7, in 8); done) | rejected
+x0 - 1 >= 0; -x0 >= 0 | rat add(in 0, in 1); rat in 2; done | accepted
+x0 - 1 >= 0; -x0 >= 0 | rat add(in 0, in 1); rat in 3; done | rejected
+x0 - 1 >= 0; -x0 >= 0 | rat in 2; done | rejected
+85070591730234615865843651857942052863*x0 >= 0 | rat add(in 0, in 0); rat in 9; done | size
+85070591730234615865843651857942052863*x0 >= 0 | rat in 9; rat add(in 0, in 0); done | rejected
+85070591730234615865843651857942052863*x0 >= 0 | rat add(add(in 0, in 0), in 9); done | size
+85070591730234615865843651857942052863*x0 >= 0 | rat add(in 9, add(in 0, in 0)); done | rejected
+";
 
 #[test]
 fn the_first_fault_decides_the_verdict(rt: HostRuntime) -> Result<(), Fail> {
     let alloc = rt.alloc();
-    for (rows, more, cert, line, status) in VERDICTS {
-        let input = format!(in alloc; "{rows}{more}cert {cert}\n")?;
+    for case in CASES.lines() {
+        let mut parts = case.split(" | ");
+        let rows = parts.next().expect(&rt, "rows");
+        let cert = parts.next().expect(&rt, "a certificate");
+        let word = parts.next().expect(&rt, "a word");
+        let mut input = String::new(alloc);
+        for row in rows.split("; ") {
+            if !row.is_empty() {
+                input.push_str("row ")?;
+                input.push_str(row)?;
+                input.push_str("\n")?;
+            }
+        }
+        input.push_str("cert ")?;
+        input.push_str(cert)?;
+        input.push_str("\n")?;
         let left = outcome(&rt, alloc, "check", input.as_bytes(), &[], &[])?;
-        assert_eq!(rt; left.written.as_slice(), line.as_bytes(), "{rows}{cert}");
-        assert_eq!(rt; left.status, status, "{rows}{cert}");
+        let line = format!(in alloc; "{word}\n")?;
+        assert_eq!(rt; left.written.as_slice(), line.as_bytes(), "{case}");
+        assert_eq!(rt; left.status == 0, word == "accepted", "{case}");
+        assert!(rt; left.status <= 1, "{case}");
     }
     Ok(())
 }
 
-// Inputs that are no rows and certificate.
-const BAD: [&str; 14] = [
-    "row x0 + 0 >= 0\ncert rat in 0; done\n",
-    "row 1*x0 >= 0\ncert rat in 0; done\n",
-    "row x00 >= 0\ncert rat in 0; done\n",
-    "row x0 - 1 >=0\ncert rat in 0; done\n",
-    "row x1 + x0 >= 0\ncert rat in 0; done\n",
-    "row x0 >= 0\r\ncert rat in 0; done\r\n",
-    "row x0 >= 0\ncert rat in 0; done\ncert rat in 0; done\n",
-    "row x0 >= 0\ncert rat in 0; done",
-    "",
-    "row x0 >= 0\n",
-    "cert rat in 0; done\nrow x0 >= 0\n",
-    "row x0 >= 0\ncert  rat in 0; done\n",
-    "row x0 >= 0\ncert rat in 4294967296; done\n",
-    "row 85070591730234615865843651857942052864*x0 >= 0\ncert rat in 0; done\n",
+// Inputs that are no rows and certificate, and the line that names the first line that doesn't fit.
+const BAD: [(&str, &str); 12] = [
+    ("row x0 + 0 >= 0\n", "bad 0\n"),
+    ("row x0 >= 0\nrow x1 >= 0\nrow x1 + x0 >= 0\n", "bad 24\n"),
+    ("row x0 >= 0\ncert rat in 0; done", "bad 12\n"),
+    ("row x0 >= 0\nrow x1 >= 0", "bad 12\n"),
+    ("row x0 >= 0\nrow x1 >= 0\n", "bad 24\n"),
+    ("", "bad 0\n"),
+    ("cert done\n\n", "bad 10\n"),
+    ("cert done\ncert done\n", "bad 10\n"),
+    ("cert done\nrow x0 >= 0\n", "bad 10\n"),
+    ("row x0 >= 0\r\ncert done\r\n", "bad 0\n"),
+    ("row x0 >= 0\n\ncert done\n", "bad 12\n"),
+    ("row x0 >= 0\ncert rat const 0; done\n", "bad 12\n"),
 ];
 
 #[test]
-fn what_is_no_check_is_refused(rt: HostRuntime) -> Result<(), Fail> {
+fn what_is_no_check_is_refused_at_its_line(rt: HostRuntime) -> Result<(), Fail> {
     let alloc = rt.alloc();
-    for input in BAD {
+    for (input, line) in BAD {
         let left = outcome(&rt, alloc, "check", input.as_bytes(), &[], &[])?;
-        assert_eq!(rt; left.written.as_slice(), b"bad\n".as_slice(), "{input}");
+        assert_eq!(rt; left.written.as_slice(), line.as_bytes(), "{input}");
         assert_eq!(rt; left.status, 2, "{input}");
     }
     Ok(())

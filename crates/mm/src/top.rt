@@ -2,11 +2,11 @@ ghost use Rattle.std.specs.Prelude.{◌≡◌, ◌+◌, ◌^◌, ◌<◌, ◌≤
 ghost use Rattle.std.specs.Io.KnownBytes.{Appends, IsAtEnd};
 ghost use Rattle.mm_io.specs.Cause.{HasRisen};
 ghost use Rattle.mm_io.specs.Writing.{AppendsPrefix};
-ghost use Rattle.mm.specs.Ending.{IsCheckWord, CallsFor, TextCallsFor, Ends, WritesPrefix, IsWhole, IsUnsolvable, IsRefused, line_of, status_of};
+ghost use Rattle.mm.specs.Ending.{IsCheckWord, CallsFor, TextCallsFor, Ends, WritesPrefix, IsWhole, IsUnsolvable, IsRefused, IsEndingStatus, line_of, status_of};
 
-use crate::checker::check;
 use crate::ending::{Ending, line, status};
-use crate::text::{TextFail, read_check};
+use cert_check::check;
+use cert_text::{CheckText, read_check};
 use mm_io::{Disk, Gate, ReadFail, Sink, Source, read_all, write_all};
 use std::alloc::Global;
 use std::thread::Threads;
@@ -73,7 +73,7 @@ pub fn run<R: Threads + Sync, S: Source, K: Sink, D: Disk + Send, G: Gate + Sync
     ensures sink_kept { K.faults out.old ≤ K.faults out.new }
 {
     let status = match ending_of(alloc, words, goals) {
-        Ok(ending) => finish(out, ending),
+        Ok(ending) => finish(alloc, out, ending),
         Err(RunFail::NoMemory) => OUT_OF_MEMORY,
         Err(RunFail::Device) => DEVICE_FAILED,
     };
@@ -109,8 +109,8 @@ fn ending_of_text(alloc: Global, bytes: &[u8]) -> Result<Ending, RunFail>
             Ok(verdict) => Ok(Ending::Checked(verdict)),
             Err(_) => Err(RunFail::NoMemory),
         },
-        Err(TextFail::Bad) => Ok(Ending::Bad),
-        Err(TextFail::NoMemory) => Err(RunFail::NoMemory),
+        Err(CheckText::Bad { at }) => Ok(Ending::Bad(at)),
+        Err(CheckText::NoMemory) => Err(RunFail::NoMemory),
     }
 }
 
@@ -122,14 +122,18 @@ fn asks_for_check(words: &[String]) -> bool
 }
 
 // Writes the line, and answers the status.
-fn finish<K: Sink>(out: &mut K, ending: Ending) -> u8
+fn finish<K: Sink>(alloc: Global, out: &mut K, ending: Ending) -> u8
     ensures written { result ≡ status_of ending → Appends (K.written out.old) (K.written out.new) (line_of ending) }
-    ensures status { (result ≡ status_of ending) ⊎ (result ≡ 5) }
+    ensures status { IsEndingStatus ending result }
+    ensures memory { result ≡ 3 → Appends (K.written out.old) (K.written out.new) [] }
     ensures fault { result ≡ 5 → HasRisen (K.faults out.old) (K.faults out.new) }
     ensures prefix { result ≡ 5 → AppendsPrefix (K.written out.old) (K.written out.new) (line_of ending) }
     ensures kept { K.faults out.old ≤ K.faults out.new }
 {
-    match write_all(out, line(ending)) {
+    let Ok(line) = line(alloc, ending) else {
+        return OUT_OF_MEMORY;
+    };
+    match write_all(out, &line) {
         Ok(()) => status(ending),
         Err(_) => DEVICE_FAILED,
     }

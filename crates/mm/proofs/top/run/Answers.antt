@@ -1,14 +1,15 @@
 use Rattle.std.proofs.Common.{◌≡◌, sym, ◌∙◌, arith, map, string_bytes, inl, inr, ◌⊎◌, ℕ}
 use Rattle.mm.specs.declared.ending.Ending.{Ending}
-use Rattle.mm.specs.Ending.{status_of}
+use Rattle.mm.specs.Ending.{IsEndingStatus, status_of}
 use Rattle.mm.proofs.EndingLaws.{ending_sound}
 use Rattle.mm.proofs.top.run.Goals as goal
 use Rattle.mm.proofs.top.run.Goals.{in-Ok, in-Err-NoMemory, in-Err-Device}
 
 -- a line that was written whole has its own status
-own_status : (e : Ending) (s : ℕ) → ((s ≡ status_of e) ⊎ (s ≡ 5)) → s ≡ 0 → status_of e ≡ 0
+own_status : (e : Ending) (s : ℕ) → IsEndingStatus e s → s ≡ 0 → status_of e ≡ 0
 own_status e s (inl h) z = sym h ∙ z
-own_status e s (inr h) z = absurd (omega (arith, h, z))
+own_status e s (inr (inl h)) z = absurd (omega (arith, h, z))
+own_status e s (inr (inr h)) z = absurd (omega (arith, h, z))
 
 pub returns-clause-sound : goal.returns-clause-sound
 returns-clause-sound g c = λ h. elim c.match-ending_of.branch [

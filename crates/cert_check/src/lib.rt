@@ -1,0 +1,22 @@
+//! The checker of certificates.
+//!
+//! `check` says of a certificate over a clause whether the rules accept it, and why not: the verdict is that of the
+//! certificate's first fault, and where there is none, no integer point solves the clause.
+#![tactic(auto)]
+
+mod checking;
+mod close;
+mod fail;
+mod interval;
+mod node;
+mod room;
+mod rows;
+mod size;
+mod split;
+mod step;
+mod walk;
+
+pub use checking::{Verdict, check};
+
+#[cfg(test)]
+mod tests;

@@ -1,0 +1,13 @@
+pub mod WordLaws
+pub mod NumberLaws
+pub mod LimitLaws
+pub mod ManyLaws
+pub mod MonoLaws
+pub mod TermLaws
+pub mod RowLaws
+pub mod PsatzLaws
+pub mod CertLaws
+pub mod CheckLaws
+pub mod CertSteps
+pub mod PrintSteps
+pub mod LoopSteps

@@ -1,0 +1,6 @@
+pub mod Text
+pub mod Limits
+pub mod Check
+pub mod Place
+pub mod Reading
+pub mod Whole

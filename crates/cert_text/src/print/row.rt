@@ -1,0 +1,25 @@
+ghost use Rattle.std.specs.Prelude.{◌≡◌, ◌++◌, IfOk, OnOk};
+ghost use Rattle.cert_text.specs.Text.{op_text, row_text};
+
+use crate::print::polynomial::push_polynomial;
+use cert_kit::{Op, PRow};
+use std::alloc::{AllocError, Global};
+
+fn push_op(out: &mut Vec<u8>, op: Op) -> Result<(), AllocError>
+    ensures { OnOk result (out.new.items ≡ out.old.items ++ op_text op) }
+{
+    match op {
+        Op::Ge => out.extend_from_slice(b" >= 0"),
+        Op::Eq => out.extend_from_slice(b" = 0"),
+    }
+}
+
+/// The text of a row.
+pub fn print_row(alloc: Global, row: &PRow) -> Result<Vec<u8>, AllocError>
+    ensures { IfOk result (λ text. text.items ≡ row_text row.now) }
+{
+    let mut out = Vec::new(alloc);
+    push_polynomial(&mut out, &row.poly)?;
+    push_op(&mut out, row.op)?;
+    Ok(out)
+}

@@ -1,0 +1,6 @@
+pub mod Truth
+pub mod Range
+pub mod Sorted
+pub mod Fitting
+pub mod Divisors
+pub mod Evaluation

@@ -1,8 +1,0 @@
-use Rattle.mm.proofs.CheckLaws.{check_found, check_bad}
-use Rattle.mm.proofs.text.read_check.Goals as goal
-
-pub returns-clause-found : goal.returns-clause-found
-returns-clause-found c = check_found c.args.bytes.now c.check.result c.check.ensures
-
-pub returns-clause-bad : goal.returns-clause-bad
-returns-clause-bad c = check_bad c.args.bytes.now c.check.result c.check.ensures

@@ -1,8 +1,0 @@
-use Rattle.std.proofs.Common.{◌≡◌, ◌-◌}
-use Rattle.mm.specs.Reading.{more_terms_at, terms_at}
-use Rattle.mm.proofs.LoopSteps.{with_front}
-use Rattle.mm.proofs.text.row.terms.Given as goal
-
--- the terms so far with what is left to read are all that is read
-abbrev pub invariant-loop : goal.invariant-loop
-invariant-loop l = with_front l.terms.items (more_terms_at (65536 - l.counter) l.rest) ≡ terms_at l.bytes
