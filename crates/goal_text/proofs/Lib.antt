@@ -1,0 +1,16 @@
+pub mod OptionLaws
+pub mod LevelLaws
+pub mod LandingLaws
+pub mod StandingLaws
+pub mod FileLaws
+pub mod KnownLaws
+pub mod SessionLaws
+pub mod FrontLaws
+pub mod CleanLaws
+pub mod CountLaws
+pub mod OutcomeLaws
+pub mod InnermostLaws
+pub mod BodyLaws
+pub mod ReadingLaws
+pub mod RefusalLaws
+pub mod PrefixSteps

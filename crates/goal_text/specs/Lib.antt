@@ -1,0 +1,11 @@
+pub mod Levels
+pub mod Grammar
+pub mod Operands
+pub mod Files
+pub mod Steps
+pub mod Counts
+pub mod Outcome
+pub mod Refusals
+pub mod Giving
+pub mod Innermost
+pub mod Reading

@@ -1,0 +1,27 @@
+//! The call that reads a goal file, and its law.
+
+ghost use Rattle.std.specs.Prelude.{◌≡◌, ◌≢◌, ℕ, List, IfOk, IfErr};
+ghost use Rattle.goal_token.specs.Tokens.{tokens_of};
+ghost use Rattle.goal_text.specs.declared.raw.RawSession.{RawSession};
+ghost use Rattle.goal_text.specs.Files.{Reads};
+ghost use Rattle.goal_text.specs.Refusals.{IsWithin, IsRefused};
+
+use crate::fail::TextFail;
+use crate::raw::RawSession;
+use crate::read::sessions;
+use sqlite_items::Items;
+use std::alloc::Global;
+
+/// The sessions of a goal file.
+pub fn read_file(alloc: Global, bytes: &[u8]) -> Result<Items<RawSession>, TextFail>
+    ensures found { IfOk result (λ sessions. Reads bytes.now sessions × IsWithin (tokens_of bytes.now)) }
+    ensures refused { IfErr result (IsRefused bytes.now) }
+    ensures exact { IfErr result (λ fail. fail ≢ TextFail.NoMemory → (ss : List RawSession) → Reads bytes.now ss → IsWithin (tokens_of bytes.now) → ⊥) }
+{
+    sessions(alloc, bytes)
+}
+
+/// Bytes are a goal file of these sessions, and of no others.
+pub fn one_reading()
+    ensures { (bytes : List ℕ) (ss others : List RawSession) → Reads bytes ss → Reads bytes others → ss ≡ others }
+{}
