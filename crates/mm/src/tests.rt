@@ -3,6 +3,9 @@ ghost use Rattle.std.specs.Prelude.{None};
 use crate::OpenGate;
 use crate::stream::{StdinSource, StdoutSink};
 use crate::top::{Caches, run};
+use cert_check::{Verdict, check};
+use cert_kit::{Cert, Clause};
+use cert_text::read_check;
 use mm_io::{Failed, MemDisk, MemSink, MemSource, Sink, Source};
 use std::alloc::{AllocError, Global};
 use std::io;
@@ -213,6 +216,43 @@ fn what_is_no_check_is_refused_at_its_line(rt: HostRuntime) -> Result<(), Fail> 
         assert_eq!(rt; left.status, 2, "{input}");
     }
     Ok(())
+}
+
+// The plane between two pairs of lines, which holds no integer point, and a certificate of that.
+const STRIP: &str =
+    "row -11*x0 - 13*x1 + 45 >= 0\nrow -7*x0 + 9*x1 + 4 >= 0\nrow 7*x0 - 9*x1 + 10 >= 0\nrow 11*x0 + 13*x1 - 27 >= 0\ncert cut add(mul(const 7, in 3), mul(const 11, in 1)); cut add(mul(const 11, in 2), mul(const 7, in 0)); enum(in 4, in 5, cut add(in 3, mulp(-13, in 6)); cut add(in 1, mulp(-9, in 6)); rat add(in 7, in 8); done, cut add(in 0, mulp(13, in 6)); cut add(in 2, mulp(9, in 6)); rat add(in 7, in 8); done)\n";
+
+// What the rules say of copies of a check.
+fn verdict_on_copies(alloc: Global, clause: &Clause, cert: &Cert) -> Result<Verdict, AllocError> {
+    let rows = clause.copy(alloc)?;
+    let cert = cert.copy(alloc)?;
+    check(alloc, &rows, &cert)
+}
+
+// Whether copies of the polynomials are equal to them.
+fn are_copies_equal(alloc: Global, clause: &Clause) -> Result<bool, AllocError> {
+    for row in clause.rows.as_slice() {
+        if !row.poly.copy(alloc)?.same(&row.poly) {
+            return Ok(false);
+        }
+    }
+    Ok(true)
+}
+
+#[test]
+fn copies_of_a_check_are_accepted_too(rt: HostRuntime) -> Result<(), Fail> {
+    let alloc = rt.alloc();
+    match read_check(alloc, STRIP.as_bytes()) {
+        Ok((clause, cert)) => {
+            assert_eq!(rt;
+                verdict_on_copies(alloc, &clause, &cert)?,
+                Verdict::Accepted
+            );
+            assert!(rt; are_copies_equal(alloc, &clause)?);
+            Ok(())
+        }
+        Err(_) => Err(AllocError.into()),
+    }
 }
 
 #[test]
