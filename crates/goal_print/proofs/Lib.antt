@@ -1,0 +1,4 @@
+pub mod PartLaws
+pub mod BinderLaws
+pub mod AssignmentLaws
+pub mod SpellingLaws

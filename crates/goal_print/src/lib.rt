@@ -1,0 +1,20 @@
+//! The text of a goal and of an assignment.
+//!
+//! A goal has one text. It has parentheses exactly where the grammar of goals needs them.
+#![tactic(auto)]
+
+mod assignment;
+mod binders;
+mod bools;
+mod formula;
+mod goal;
+mod pieces;
+mod precedence;
+mod spelling;
+mod term;
+
+pub use assignment::print_assignment;
+pub use goal::print_goal;
+
+#[cfg(test)]
+mod tests;
