@@ -4,40 +4,13 @@ use Rattle.std.specs.List.{join_with_byte, list_any}
 use Rattle.std.proofs.lemmas.List.{append_assoc, append-nil}
 use Rattle.std.proofs.lemmas.Bool.{le-leb}
 use Rattle.goal_ast.specs.declared.term.Sort.{Sort}
-use Rattle.goal_ast.specs.declared.term.Sort.TheVariants as sorts
 use Rattle.goal_ast.specs.declared.goal.Bound.{Bound}
 use Rattle.goal_ast.specs.Sorted.{is_sort}
-use Rattle.goal_print.specs.Spelling.{sort_text}
+use Rattle.goal_token.specs.Spelling.{sort_text}
 use Rattle.goal_print.specs.Parts.{grouped}
 use Rattle.goal_print.specs.Text.{Group, with_first, groups, group_text, groups_text}
 use Rattle.goal_print.specs.Binders.{opening, closing, ending, following}
-
-is_sort_true : (s t : Sort) → is_sort s t ≡ true → s ≡ t
-is_sort_true sorts.Int sorts.Int e = refl
-is_sort_true sorts.Bin sorts.Bin e = refl
-is_sort_true sorts.Nat sorts.Nat e = refl
-is_sort_true sorts.Pos sorts.Pos e = refl
-is_sort_true sorts.Bool sorts.Bool e = refl
-is_sort_true sorts.Int sorts.Bin e = cc
-is_sort_true sorts.Int sorts.Nat e = cc
-is_sort_true sorts.Int sorts.Pos e = cc
-is_sort_true sorts.Int sorts.Bool e = cc
-is_sort_true sorts.Bin sorts.Int e = cc
-is_sort_true sorts.Bin sorts.Nat e = cc
-is_sort_true sorts.Bin sorts.Pos e = cc
-is_sort_true sorts.Bin sorts.Bool e = cc
-is_sort_true sorts.Nat sorts.Int e = cc
-is_sort_true sorts.Nat sorts.Bin e = cc
-is_sort_true sorts.Nat sorts.Pos e = cc
-is_sort_true sorts.Nat sorts.Bool e = cc
-is_sort_true sorts.Pos sorts.Int e = cc
-is_sort_true sorts.Pos sorts.Bin e = cc
-is_sort_true sorts.Pos sorts.Nat e = cc
-is_sort_true sorts.Pos sorts.Bool e = cc
-is_sort_true sorts.Bool sorts.Int e = cc
-is_sort_true sorts.Bool sorts.Bin e = cc
-is_sort_true sorts.Bool sorts.Nat e = cc
-is_sort_true sorts.Bool sorts.Pos e = cc
+use Rattle.goal_sort.proofs.TakingLaws.{one_sort}
 
 -- further groups, each after a space and between these parentheses
 abbrev pub after_group : Bool → List Group → List ℕ
@@ -74,7 +47,7 @@ first_group several b = simp (append_assoc, append-nil)
 
 grouping_by : (several : Bool) (b c : Bound) (vars : List Bound) (t : Bool) → is_sort b.sort c.sort ≡ t → Grouping several c vars → Grouping several b (c ∷ vars)
 grouping_by several b c vars true e g =
-    let same : b.sort ≡ c.sort = is_sort_true b.sort c.sort e in
+    let same : b.sort ≡ c.sort = one_sort b.sort c.sort e in
     record {
       others = c.name.bytes ∷ g.others;
       more = g.more;

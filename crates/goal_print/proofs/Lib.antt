@@ -1,4 +1,13 @@
 pub mod PartLaws
 pub mod BinderLaws
 pub mod AssignmentLaws
-pub mod SpellingLaws
+pub mod ShortLaws
+pub mod PieceLaws
+pub mod ShapeLaws
+pub mod FoldLaws
+pub mod BoundLaws
+pub mod BodyLaws
+pub mod PrefixLaws
+pub mod PrefixReadingLaws
+pub mod FileReadingLaws
+pub mod ReadsBackLaws

@@ -3,7 +3,7 @@ use Rattle.std.specs.Prelude.{ℕ, List, [], ◌∷◌, ◌++◌, Bool, if◌the
 use Rattle.goal_ast.specs.declared.term.Sort.{Sort}
 use Rattle.goal_ast.specs.declared.goal.Bound.{Bound}
 use Rattle.goal_ast.specs.Sorted.{is_sort}
-use Rattle.goal_print.specs.Spelling.{sort_text}
+use Rattle.goal_token.specs.Spelling.{sort_text}
 
 -- the parenthesis before a group, where there are several
 abbrev pub opening : Bool → List ℕ

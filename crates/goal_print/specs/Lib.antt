@@ -1,4 +1,4 @@
-pub mod Spelling
 pub mod Parts
 pub mod Text
 pub mod Binders
+pub mod ReadsBack

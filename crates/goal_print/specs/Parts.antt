@@ -7,7 +7,7 @@ use Rattle.goal_token.specs.declared.token.Sign.{Sign}
 use Rattle.goal_token.specs.declared.token.Sign.TheVariants as signs
 use Rattle.goal_text.specs.declared.precedence.Levels.{Levels}
 use Rattle.goal_text.specs.Levels.{infix_levels, prefix_level}
-use Rattle.goal_print.specs.Spelling.{sign_text, function_text}
+use Rattle.goal_token.specs.Spelling.{sign_text, function_text}
 
 -- an expression's level in the grammar, and its text
 pub record Part : Type 0 where

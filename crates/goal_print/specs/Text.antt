@@ -20,7 +20,7 @@ use Rattle.goal_ast.specs.declared.goal.Assignment.{Assignment}
 use Rattle.goal_ast.specs.Sorted.{is_sort}
 use Rattle.goal_token.specs.declared.token.Function.TheVariants as functions
 use Rattle.goal_token.specs.declared.token.Sign.TheVariants as signs
-use Rattle.goal_print.specs.Spelling.{sort_text, cmp_sign, test_sign}
+use Rattle.goal_token.specs.Spelling.{sort_text, cmp_sign, test_sign}
 use Rattle.goal_print.specs.Parts.{Part, grouped, leaf, number, prefixed, joined, chained, applied, applied_to_two}
 
 -- the name of the variable of this number, and no text where there is none

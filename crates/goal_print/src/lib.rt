@@ -1,6 +1,7 @@
 //! The text of a goal and of an assignment.
 //!
-//! A goal has one text. It has parentheses exactly where the grammar of goals needs them.
+//! A goal has one text. It has parentheses exactly where the grammar of goals needs them, and it is read again as that
+//! goal.
 #![tactic(auto)]
 
 mod assignment;
@@ -8,6 +9,7 @@ mod binders;
 mod bools;
 mod formula;
 mod goal;
+mod law;
 mod pieces;
 mod precedence;
 mod spelling;
@@ -15,6 +17,7 @@ mod term;
 
 pub use assignment::print_assignment;
 pub use goal::print_goal;
+pub use law::reads_back;
 
 #[cfg(test)]
 mod tests;

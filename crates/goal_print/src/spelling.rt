@@ -1,7 +1,7 @@
 //! The texts of sorts and functions, and the signs of comparisons between their spaces.
 
 ghost use Rattle.std.specs.Prelude.{◌≡◌};
-ghost use Rattle.goal_print.specs.Spelling.{sort_text, one_text, two_text, bool_text, cmp_sign, test_sign};
+ghost use Rattle.goal_token.specs.Spelling.{sort_text, one_text, two_text, bool_text, cmp_sign, test_sign};
 ghost use Rattle.goal_print.specs.Parts.{between};
 
 use goal_ast::{BCmp, BFn, Cmp, Fn1, Fn2, Sort};

@@ -7,7 +7,7 @@ use Rattle.goal_token.specs.declared.token.Sign.TheVariants as signs
 use Rattle.goal_token.specs.declared.token.Token.{Token}
 use Rattle.goal_token.specs.declared.token.Token.TheVariants as tokens
 use Rattle.goal_token.specs.declared.token.Placed.{Placed}
-use Rattle.goal_text.specs.declared.raw.RawBound.{RawBound}
+use Rattle.goal_sort.specs.declared.raw.RawBound.{RawBound}
 use Rattle.goal_text.specs.declared.state.Named.{Named}
 use Rattle.goal_text.specs.Grammar.{sign}
 use Rattle.goal_text.specs.Operands.{Reading, with_token, with_tokens}

@@ -11,10 +11,10 @@ use Rattle.goal_token.specs.declared.token.Sign.TheVariants as signs
 use Rattle.goal_token.specs.declared.token.Token.{Token}
 use Rattle.goal_token.specs.declared.token.Token.TheVariants as tokens
 use Rattle.goal_token.specs.declared.token.Placed.{Placed}
-use Rattle.goal_text.specs.declared.raw.RawBound.{RawBound}
-use Rattle.goal_text.specs.declared.raw.RawExpr.{RawExpr}
-use Rattle.goal_text.specs.declared.raw.RawGoal.{RawGoal}
-use Rattle.goal_text.specs.declared.raw.RawSession.{RawSession}
+use Rattle.goal_sort.specs.declared.raw.RawBound.{RawBound}
+use Rattle.goal_sort.specs.declared.raw.RawExpr.{RawExpr}
+use Rattle.goal_sort.specs.declared.raw.RawGoal.{RawGoal}
+use Rattle.goal_sort.specs.declared.raw.RawSession.{RawSession}
 use Rattle.goal_text.specs.declared.frame.Frame.{Frame}
 use Rattle.goal_text.specs.declared.frame.Frame.TheVariants.{Open, Prefix, Infix, Chain, First, Last}
 use Rattle.goal_text.specs.declared.state.Named.{Named}

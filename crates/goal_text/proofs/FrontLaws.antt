@@ -9,9 +9,9 @@ use Rattle.goal_ast.specs.declared.term.Sort.TheVariants as sorts
 use Rattle.goal_token.specs.declared.token.Keyword.TheVariants as keywords
 use Rattle.goal_token.specs.declared.token.Sign.TheVariants as signs
 use Rattle.goal_token.specs.declared.token.Placed.{Placed}
-use Rattle.goal_text.specs.declared.raw.RawBound.{RawBound}
-use Rattle.goal_text.specs.declared.raw.RawExpr.{RawExpr}
-use Rattle.goal_text.specs.declared.raw.RawSession.{RawSession}
+use Rattle.goal_sort.specs.declared.raw.RawBound.{RawBound}
+use Rattle.goal_sort.specs.declared.raw.RawExpr.{RawExpr}
+use Rattle.goal_sort.specs.declared.raw.RawSession.{RawSession}
 use Rattle.goal_text.specs.declared.state.Named.{Named}
 use Rattle.goal_text.specs.declared.state.State.TheVariants as states
 use Rattle.goal_text.specs.declared.state.Between.TheVariants as betweens

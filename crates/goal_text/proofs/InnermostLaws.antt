@@ -4,7 +4,7 @@ use Rattle.std.specs.Prelude.{nat_le, nat_lt, ◌&&◌, not, if◌then◌else◌
 use Rattle.std.proofs.lemmas.Bool.Decides.{nat_tests}
 use Rattle.goal_token.specs.declared.token.Sign.{Sign}
 use Rattle.goal_token.specs.declared.token.Token.{Token}
-use Rattle.goal_text.specs.declared.raw.RawExpr.{RawExpr}
+use Rattle.goal_sort.specs.declared.raw.RawExpr.{RawExpr}
 use Rattle.goal_text.specs.declared.frame.Frame.{Frame}
 use Rattle.goal_text.specs.declared.frame.Frame.TheVariants.{Open, Prefix, Infix, Chain, First, Last}
 use Rattle.goal_text.specs.declared.precedence.Levels.{Levels}

@@ -12,8 +12,8 @@ use Rattle.goal_token.specs.declared.token.Token.TheVariants as tokens
 use Rattle.goal_token.specs.declared.token.Placed.{Placed}
 use Rattle.goal_text.specs.declared.kind.Kind.{Kind}
 use Rattle.goal_text.specs.declared.kind.Kind.TheVariants as kinds
-use Rattle.goal_text.specs.declared.raw.RawBound.{RawBound}
-use Rattle.goal_text.specs.declared.raw.RawExpr.{RawExpr}
+use Rattle.goal_sort.specs.declared.raw.RawBound.{RawBound}
+use Rattle.goal_sort.specs.declared.raw.RawExpr.{RawExpr}
 use Rattle.goal_text.specs.declared.state.Named.{Named}
 use Rattle.goal_text.specs.declared.state.Part.{Part}
 use Rattle.goal_text.specs.declared.state.Part.TheVariants as parts

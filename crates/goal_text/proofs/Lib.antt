@@ -14,3 +14,6 @@ pub mod BodyLaws
 pub mod ReadingLaws
 pub mod RefusalLaws
 pub mod PrefixSteps
+pub mod ReadableLaws
+pub mod ShortLaws
+pub mod WithinLaws

@@ -16,8 +16,8 @@ use Rattle.goal_text.specs.declared.fail.TextFail.{TextFail}
 use Rattle.goal_text.specs.declared.fail.TextFail.TheVariants.{Bad, Long, Many, NoMemory}
 use Rattle.goal_text.specs.declared.kind.Kind.{Kind}
 use Rattle.goal_text.specs.declared.kind.Kind.TheVariants as kinds
-use Rattle.goal_text.specs.declared.raw.RawBound.{RawBound}
-use Rattle.goal_text.specs.declared.raw.RawSession.{RawSession}
+use Rattle.goal_sort.specs.declared.raw.RawBound.{RawBound}
+use Rattle.goal_sort.specs.declared.raw.RawSession.{RawSession}
 use Rattle.goal_text.specs.declared.state.Named.{Named}
 use Rattle.goal_text.specs.declared.state.State.TheVariants as states
 use Rattle.goal_text.specs.declared.state.Between.TheVariants as betweens
@@ -105,7 +105,7 @@ name_is t e = by_kind (kind_of t.token) (kind_is t) e
 abbrev pub AreBegun : Begun → List Placed → Type 0
 AreBegun b ts = (b.sessions ≡ count keywords.Session ts) × (b.goals ≡ count keywords.Goal ts)
 
-count_append : (k : Keyword) (ts us : List Placed) → count k (ts ++ us) ≡ count k ts + count k us
+pub count_append : (k : Keyword) (ts us : List Placed) → count k (ts ++ us) ≡ count k ts + count k us
 count_append k [] us = omega arith
 count_append k (t ∷ ts) us = omega (arith, count_append k ts us)
 

@@ -3,7 +3,7 @@ use Rattle.std.proofs.Common.{◌≡◌, List, [], ◌∷◌, ◌++◌, refl, sy
 use Rattle.std.specs.Prelude.{reverse}
 use Rattle.std.proofs.lemmas.List.{reverse-append}
 use Rattle.goal_ast.specs.declared.term.Sort.{Sort}
-use Rattle.goal_text.specs.declared.raw.RawBound.{RawBound}
+use Rattle.goal_sort.specs.declared.raw.RawBound.{RawBound}
 use Rattle.goal_text.specs.declared.state.Named.{Named}
 use Rattle.goal_text.specs.Files.{bounds}
 

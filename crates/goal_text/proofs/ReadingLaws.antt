@@ -7,7 +7,7 @@ use Rattle.goal_token.specs.declared.token.Placed.{Placed}
 use Rattle.goal_token.specs.Tokens.{IsTaken}
 use Rattle.goal_text.specs.declared.fail.TextFail.{TextFail}
 use Rattle.goal_text.specs.declared.fail.TextFail.TheVariants.{Bad, Long, Many, NoMemory}
-use Rattle.goal_text.specs.declared.raw.RawSession.{RawSession}
+use Rattle.goal_sort.specs.declared.raw.RawSession.{RawSession}
 use Rattle.goal_text.specs.Steps.{kind_of, is_dot, FileRead, file_with}
 use Rattle.goal_text.specs.Counts.{body_count, bound_count}
 use Rattle.goal_text.specs.Outcome.{is_session, is_goal, is_name, Begun, one_if, begun_with, is_many, is_long, limit_at, outcome}

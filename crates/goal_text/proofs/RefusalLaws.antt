@@ -5,13 +5,15 @@ use Rattle.goal_token.specs.declared.token.Placed.{Placed}
 use Rattle.goal_token.specs.Tokens.{tokens_of}
 use Rattle.goal_text.specs.declared.fail.TextFail.{TextFail}
 use Rattle.goal_text.specs.declared.fail.TextFail.TheVariants.{Bad, Long, Many, NoMemory}
-use Rattle.goal_text.specs.declared.raw.RawSession.{RawSession}
+use Rattle.goal_sort.specs.declared.raw.RawSession.{RawSession}
 use Rattle.goal_text.specs.Files.{Sessions, Reads}
 use Rattle.goal_text.specs.Steps.{nothing_read}
 use Rattle.goal_text.specs.Outcome.{outcome}
 use Rattle.goal_text.specs.Refusals.{IsBad, IsLong, IsMany, IsWithin, At, IsRefused}
+use Rattle.goal_text.specs.GoalsRead.{AreGoalsOfFile}
 use Rattle.goal_text.specs.Reading.{Comes}
 use Rattle.goal_text.proofs.OutcomeLaws.{IsRight, reading_right}
+use Rattle.goal_text.proofs.ShortLaws.{all_read}
 
 -- reading all of the bytes
 abbrev all_of : List ℕ → Result (List RawSession) TextFail
@@ -23,6 +25,10 @@ is_right bytes r e = subst (λ r. IsRight (tokens_of bytes) (length bytes) r) e 
 pub read_found : (bytes : List ℕ) (r : Result (List RawSession) TextFail) → Comes r (all_of bytes) → IfOk r (λ ss. Reads bytes ss × IsWithin (tokens_of bytes))
 read_found bytes (Ok ss) e = is_right bytes (Ok ss) e
 read_found bytes (Err fail) e = tt
+
+pub read_goals : (bytes : List ℕ) (r : Result (List RawSession) TextFail) → Comes r (all_of bytes) → IfOk r AreGoalsOfFile
+read_goals bytes (Ok ss) e = let right = is_right bytes (Ok ss) e in all_read bytes ss right.0 right.1
+read_goals bytes (Err fail) e = tt
 
 pub read_refused : (bytes : List ℕ) (r : Result (List RawSession) TextFail) → Comes r (all_of bytes) → IfErr r (IsRefused bytes)
 read_refused bytes (Ok ss) e = tt

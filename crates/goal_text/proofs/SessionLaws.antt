@@ -7,10 +7,10 @@ use Rattle.goal_token.specs.declared.token.Sign.TheVariants as signs
 use Rattle.goal_token.specs.declared.token.Placed.{Placed}
 use Rattle.goal_text.specs.declared.kind.Kind.{Kind}
 use Rattle.goal_text.specs.declared.kind.Kind.TheVariants as kinds
-use Rattle.goal_text.specs.declared.raw.RawBound.{RawBound}
-use Rattle.goal_text.specs.declared.raw.RawExpr.{RawExpr}
-use Rattle.goal_text.specs.declared.raw.RawGoal.{RawGoal}
-use Rattle.goal_text.specs.declared.raw.RawSession.{RawSession}
+use Rattle.goal_sort.specs.declared.raw.RawBound.{RawBound}
+use Rattle.goal_sort.specs.declared.raw.RawExpr.{RawExpr}
+use Rattle.goal_sort.specs.declared.raw.RawGoal.{RawGoal}
+use Rattle.goal_sort.specs.declared.raw.RawSession.{RawSession}
 use Rattle.goal_text.specs.declared.state.Named.{Named}
 use Rattle.goal_text.specs.declared.state.State.{State}
 use Rattle.goal_text.specs.declared.state.State.TheVariants as states

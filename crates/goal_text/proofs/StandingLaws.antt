@@ -12,9 +12,9 @@ use Rattle.goal_token.specs.declared.token.Token.{Token}
 use Rattle.goal_token.specs.declared.token.Token.TheVariants as tokens
 use Rattle.goal_token.specs.declared.token.Placed.{Placed}
 use Rattle.goal_token.specs.Numbers.{sign_number, function_number}
-use Rattle.goal_text.specs.declared.raw.Head.{Head}
-use Rattle.goal_text.specs.declared.raw.Head.TheVariants as heads
-use Rattle.goal_text.specs.declared.raw.RawExpr.{RawExpr}
+use Rattle.goal_sort.specs.declared.raw.Head.{Head}
+use Rattle.goal_sort.specs.declared.raw.Head.TheVariants as heads
+use Rattle.goal_sort.specs.declared.raw.RawExpr.{RawExpr}
 use Rattle.goal_text.specs.declared.frame.Frame.{Frame}
 use Rattle.goal_text.specs.declared.frame.Frame.TheVariants.{Open, Prefix, Infix, Chain, First, Last}
 use Rattle.goal_text.specs.declared.precedence.Levels.{Levels}

@@ -9,10 +9,10 @@ use Rattle.goal_token.specs.declared.token.Sign.TheVariants as signs
 use Rattle.goal_token.specs.declared.token.Token.TheVariants as tokens
 use Rattle.goal_token.specs.declared.token.Placed.{Placed}
 use Rattle.goal_token.specs.Tokens.{tokens_of}
-use Rattle.goal_text.specs.declared.raw.RawBound.{RawBound}
-use Rattle.goal_text.specs.declared.raw.RawExpr.{RawExpr}
-use Rattle.goal_text.specs.declared.raw.RawGoal.{RawGoal}
-use Rattle.goal_text.specs.declared.raw.RawSession.{RawSession}
+use Rattle.goal_sort.specs.declared.raw.RawBound.{RawBound}
+use Rattle.goal_sort.specs.declared.raw.RawExpr.{RawExpr}
+use Rattle.goal_sort.specs.declared.raw.RawGoal.{RawGoal}
+use Rattle.goal_sort.specs.declared.raw.RawSession.{RawSession}
 use Rattle.goal_text.specs.declared.state.Named.{Named}
 use Rattle.goal_text.specs.Grammar.{sign, Expr}
 

@@ -9,9 +9,9 @@ use Rattle.goal_token.specs.declared.token.Placed.{Placed}
 use Rattle.goal_token.specs.declared.token.Constant.{Constant}
 use Rattle.goal_token.specs.declared.token.Constant.TheVariants as constants
 use Rattle.goal_token.specs.Numbers.{sign_number, function_number}
-use Rattle.goal_text.specs.declared.raw.Head.{Head}
-use Rattle.goal_text.specs.declared.raw.Head.TheVariants as heads
-use Rattle.goal_text.specs.declared.raw.RawExpr.{RawExpr, roll-RawExpr}
+use Rattle.goal_sort.specs.declared.raw.Head.{Head}
+use Rattle.goal_sort.specs.declared.raw.Head.TheVariants as heads
+use Rattle.goal_sort.specs.declared.raw.RawExpr.{RawExpr, roll-RawExpr}
 use Rattle.goal_text.specs.declared.precedence.Levels.{Levels}
 use Rattle.goal_text.specs.Levels.{infix_levels, prefix_level, can_chain, arity}
 

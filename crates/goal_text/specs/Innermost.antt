@@ -1,7 +1,7 @@
 -- What the innermost of the open constructs says about the next token.
 use Rattle.std.specs.Prelude.{ℕ, List, [], ◌∷◌, Bool, true, false, not, nat_lt, ◌&&◌, Option, Some, None}
 use Rattle.goal_token.specs.declared.token.Sign.{Sign}
-use Rattle.goal_text.specs.declared.raw.RawExpr.{RawExpr}
+use Rattle.goal_sort.specs.declared.raw.RawExpr.{RawExpr}
 use Rattle.goal_text.specs.declared.frame.Frame.{Frame}
 use Rattle.goal_text.specs.declared.frame.Frame.TheVariants.{Open, Prefix, Infix, Chain, First, Last}
 use Rattle.goal_text.specs.Levels.{can_chain}

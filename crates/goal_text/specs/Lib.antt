@@ -9,3 +9,4 @@ pub mod Refusals
 pub mod Giving
 pub mod Innermost
 pub mod Reading
+pub mod GoalsRead

@@ -7,7 +7,7 @@ use Rattle.goal_text.specs.declared.fail.TextFail.{TextFail}
 use Rattle.goal_text.specs.declared.fail.TextFail.TheVariants.{Bad, Long, Many}
 use Rattle.goal_text.specs.declared.kind.Kind.{Kind}
 use Rattle.goal_text.specs.declared.kind.Kind.TheVariants as kinds
-use Rattle.goal_text.specs.declared.raw.RawSession.{RawSession}
+use Rattle.goal_sort.specs.declared.raw.RawSession.{RawSession}
 use Rattle.goal_text.specs.Steps.{kind_of, is_dot, FileRead, file_with, file_of}
 use Rattle.goal_text.specs.Counts.{body_count, bound_count}
 

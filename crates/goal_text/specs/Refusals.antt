@@ -10,8 +10,8 @@ use Rattle.goal_token.specs.declared.token.Placed.{Placed}
 use Rattle.goal_token.specs.Tokens.{tokens_of}
 use Rattle.goal_text.specs.declared.fail.TextFail.{TextFail}
 use Rattle.goal_text.specs.declared.fail.TextFail.TheVariants.{Bad, Long, Many, NoMemory}
-use Rattle.goal_text.specs.declared.raw.RawBound.{RawBound}
-use Rattle.goal_text.specs.declared.raw.RawSession.{RawSession}
+use Rattle.goal_sort.specs.declared.raw.RawBound.{RawBound}
+use Rattle.goal_sort.specs.declared.raw.RawSession.{RawSession}
 use Rattle.goal_text.specs.Files.{word, Prefixes, Sessions}
 
 -- tokens that some file begins with

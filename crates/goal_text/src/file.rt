@@ -2,8 +2,9 @@
 
 ghost use Rattle.std.specs.Prelude.{◌≡◌, ◌≢◌, ℕ, List, IfOk, IfErr};
 ghost use Rattle.goal_token.specs.Tokens.{tokens_of};
-ghost use Rattle.goal_text.specs.declared.raw.RawSession.{RawSession};
+ghost use Rattle.goal_sort.specs.declared.raw.RawSession.{RawSession};
 ghost use Rattle.goal_text.specs.Files.{Reads};
+ghost use Rattle.goal_text.specs.GoalsRead.{AreGoalsOfFile};
 ghost use Rattle.goal_text.specs.Refusals.{IsWithin, IsRefused};
 
 use crate::fail::TextFail;
@@ -15,6 +16,7 @@ use std::alloc::Global;
 /// The sessions of a goal file.
 pub fn read_file(alloc: Global, bytes: &[u8]) -> Result<Items<RawSession>, TextFail>
     ensures found { IfOk result (λ sessions. Reads bytes.now sessions × IsWithin (tokens_of bytes.now)) }
+    ensures goals { IfOk result AreGoalsOfFile }
     ensures refused { IfErr result (IsRefused bytes.now) }
     ensures exact { IfErr result (λ fail. fail ≢ TextFail.NoMemory → (ss : List RawSession) → Reads bytes.now ss → IsWithin (tokens_of bytes.now) → ⊥) }
 {

@@ -22,7 +22,7 @@ pub struct Operands {
 
 impl Model for Operands {
     ghost use Rattle.std.specs.Coded.{codes};
-    ghost use Rattle.goal_text.specs.contracts.raw.RawExpr as raw;
+    ghost use Rattle.goal_sort.specs.contracts.raw.RawExpr as raw;
     ghost use Rattle.goal_text.specs.contracts.frame.Frame as frame;
     ghost use Rattle.goal_text.specs.Operands.{Reading};
 

@@ -24,7 +24,7 @@ pub struct Reader {
 
 impl Model for Reader {
     ghost use Rattle.std.specs.Coded.{codes};
-    ghost use Rattle.goal_text.specs.contracts.raw.RawSession as session;
+    ghost use Rattle.goal_sort.specs.contracts.raw.RawSession as session;
     ghost use Rattle.goal_text.specs.contracts.state.State as standing;
     ghost use Rattle.goal_text.specs.Steps.{FileRead};
 

@@ -6,3 +6,6 @@ pub mod LiteralSteps
 pub mod PlaceSteps
 pub mod SmallLaws
 pub mod NameLaws
+pub mod SpellingLaws
+pub mod SpacingSteps
+pub mod SpacingLaws

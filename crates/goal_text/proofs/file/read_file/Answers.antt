@@ -1,4 +1,4 @@
-use Rattle.goal_text.proofs.RefusalLaws.{read_found, read_refused, read_exact}
+use Rattle.goal_text.proofs.RefusalLaws.{read_found, read_goals, read_refused, read_exact}
 use Rattle.goal_text.proofs.file.read_file.Goals as goal
 
 pub returns-clause-found : goal.returns-clause-found
@@ -9,3 +9,6 @@ returns-clause-refused c = read_refused c.args.bytes.now c.sessions.result c.ses
 
 pub returns-clause-exact : goal.returns-clause-exact
 returns-clause-exact c = read_exact c.args.bytes.now c.sessions.result c.sessions.ensures
+
+pub returns-clause-goals : goal.returns-clause-goals
+returns-clause-goals c = read_goals c.args.bytes.now c.sessions.result c.sessions.ensures

@@ -10,7 +10,7 @@ use Rattle.goal_token.specs.declared.token.Function.TheVariants.{One, Two, Negb,
 use Rattle.goal_token.specs.declared.token.Sign.{Sign}
 use Rattle.goal_token.specs.declared.token.Sign.TheVariants as sign
 use Rattle.goal_token.specs.Words.{Table, lookup, functions, sorts, signs_of_3, signs_of_2, signs_of_1}
-use Rattle.goal_print.specs.Spelling.{sign_text, sort_text, function_text}
+use Rattle.goal_token.specs.Spelling.{sign_text, sort_text, function_text}
 
 pub sort_spelled : (s : Sort) → lookup (sort_text s) sorts ≡ Some s
 sort_spelled sort.Int = refl

@@ -1,0 +1,12 @@
+pub mod TermLaws
+pub mod TakingLaws
+pub mod NumberLaws
+pub mod WellFormedLaws
+pub mod GivingLaws
+pub mod OperatorLaws
+pub mod KindLaws
+pub mod JoiningLaws
+pub mod NameLaws
+pub mod AgainLaws
+pub mod FoundLaws
+pub mod SortingSteps

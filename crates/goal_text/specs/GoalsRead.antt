@@ -1,0 +1,21 @@
+-- What each goal of a file within the limits is.
+use Rattle.std.specs.Prelude.{◌≤◌, List, length}
+use Rattle.std.specs.List.{AllByRecursion}
+use Rattle.goal_token.specs.declared.token.Placed.{Placed}
+use Rattle.goal_token.specs.Spacing.{IsName}
+use Rattle.goal_sort.specs.declared.raw.RawBound.{RawBound}
+use Rattle.goal_sort.specs.declared.raw.RawGoal.{RawGoal}
+use Rattle.goal_sort.specs.declared.raw.RawSession.{RawSession}
+use Rattle.goal_sort.specs.Sorting.{IsReadable}
+use Rattle.goal_text.specs.Grammar.{Expr}
+
+-- it can be sorted, its bound names are names, and its body has at most 2,048 tokens
+pub record IsGoalOfFile (raw : RawGoal) : Type 0 where
+  pub readable : IsReadable raw
+  pub named : AllByRecursion (λ (b : RawBound). IsName b.name.bytes) raw.bound
+  pub tokens : List Placed
+  pub spelled : Expr 100 raw.body tokens
+  pub short : length tokens ≤ 2048
+
+abbrev pub AreGoalsOfFile : List RawSession → Type 0
+AreGoalsOfFile ss = AllByRecursion (λ (s : RawSession). AllByRecursion IsGoalOfFile s.goals) ss
