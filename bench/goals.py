@@ -1,7 +1,7 @@
 #!/usr/bin/env python3
-"""Times of reading goal files. Usage: bench/goals.py [MIB]
+"""Times of reading, sorting and printing goals. Usage: bench/goals.py [MIB]
 
-The server doesn't read goals yet, so a small program round `read_file` is made, proved and built in a copy of the
+The server doesn't read goals yet, so a small program round `read_file`, `sorts` and `print_goal` is made, proved and built in a copy of the
 crates that it stands on, outside the repository. Each line tells the time of one run and its peak memory, also of the
 same bytes only read from the input.
 """
@@ -12,30 +12,60 @@ import sys
 import tempfile
 import time
 
-MAIN = """//! Reads its input, as goals where it is told so.
+MAIN = """//! Reads its input, as goals where it is told so, and sorts and prints these where it is told so too.
 #![tactic(auto)]
 
-use goal_text::read_file;
+ghost use Rattle.std.specs.List.{AllByRecursion};
+ghost use Rattle.goal_sort.specs.Sorting.{IsReadable};
+ghost use Rattle.goal_text.specs.GoalsRead.{IsGoalOfFile};
+
+use goal_print::print_goal;
+use goal_text::{RawGoal, RawSession, read_file, sorts};
+use std::alloc::{AllocError, Global};
 use std::io::Read;
 use std::process::ExitCode;
 use std::{env, io};
 
+fn printed(alloc: Global, raw: &RawGoal) -> Result<usize, AllocError>
+    requires { IsReadable raw.now }
+{
+    match sorts(alloc, raw) {
+        Ok(goal) => Ok(print_goal(alloc, &goal)?.len()),
+        Err(_) => Ok(0),
+    }
+}
+
+fn print_all(alloc: Global, goals: &[RawGoal]) -> Result<(), AllocError>
+    requires { AllByRecursion IsGoalOfFile goals.now }
+{
+    for goal in goals {
+        let _ = printed(alloc, goal)?;
+    }
+    Ok(())
+}
+
 fn main(rt: HostRuntime) -> io::Result<ExitCode> {
     let alloc = rt.alloc();
-    let reads = env::args(&rt)?.count() > 1;
+    let words = env::args(&rt)?.count();
     let mut bytes = Vec::new(alloc);
     rt.stdin().read_to_end(&mut bytes)?;
-    if !reads {
+    if words == 1 {
         return Ok(ExitCode::from(0));
     }
-    match read_file(alloc, &bytes) {
-        Ok(_) => Ok(ExitCode::from(0)),
-        Err(_) => Ok(ExitCode::from(1)),
+    if let Ok(sessions) = read_file(alloc, &bytes) {
+        if words == 2 {
+            return Ok(ExitCode::from(0));
+        }
+        for session in sessions.as_slice() {
+            print_all(alloc, session.goals.as_slice())?;
+        }
+        return Ok(ExitCode::from(0));
     }
+    Ok(ExitCode::from(1))
 }
 """
 
-CRATES = ["mm_num", "goal_ast", "goal_token", "goal_text"]
+CRATES = ["mm_num", "goal_ast", "goal_token", "goal_sort", "goal_text", "goal_print"]
 
 GOALS = [
     "Goal forall lo hi : Z, 0 <= lo <= hi -> lo <= (lo + hi) / 2 <= hi. lia.\n",
@@ -92,13 +122,14 @@ def main():
         with open(f"{root}/crates.txt") as file:
             lines = [line for line in file if line.split(":")[0] in CRATES]
         with open(f"{copy}/crates.txt", "w") as file:
-            file.writelines(lines + ["goal_bench: goal_text goal_ast goal_token sqlite_items\n"])
+            file.writelines(lines + ["goal_bench: goal_print goal_text goal_sort goal_ast goal_token sqlite_items\n"])
         subprocess.run(["rt", "run"], cwd=f"{copy}/crates/goal_bench", stdin=subprocess.DEVNULL, check=True, stdout=subprocess.DEVNULL)
         program = f"{copy}/crates/goal_bench/out/goal_bench"
         for name, data in [("goals", text(size)), ("goals and comments", padded(size))]:
             spent, memory, status = run(program, ["read"], data)
+            whole, most, _ = run(program, ["read", "print"], data)
             before, held, _ = run(program, [], data)
-            print(f"{name}, {len(data) / 2**20:.1f} MiB: {spent:.2f} s and {memory:.0f} MiB, input alone {before:.2f} s and {held:.0f} MiB, status {status}")
+            print(f"{name}, {len(data) / 2**20:.1f} MiB: {spent:.2f} s and {memory:.0f} MiB, sorted and printed too {whole:.2f} s and {most:.0f} MiB, input alone {before:.2f} s and {held:.0f} MiB, status {status}")
 
 
 main()
