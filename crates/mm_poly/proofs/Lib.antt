@@ -19,3 +19,4 @@ pub mod SameLaws
 pub mod PointLaws
 pub mod PointSteps
 pub mod FactorSteps
+pub mod JoinLaws

@@ -1,8 +1,7 @@
--- The terms of a list in any order, joined half by half, are a polynomial, and so is the product.
-use Rattle.std.specs.Prelude.{◌≡◌, ◌≢◌, ℕ, ◌+◌, ◌*◌, ◌^◌, ◌<◌, ◌≤◌, ℤ, pos, ◌+ℤ◌, unsigned_abs, List, [], ◌∷◌, ◌++◌, length, take, drop, refl}
-use Rattle.std.proofs.Common.{ap, sym, ◌∙◌, subst, arith}
+-- The terms of a list in any order, joined, are a polynomial, and so is the product.
+use Rattle.std.specs.Prelude.{◌≡◌, ◌≢◌, ℕ, ◌+◌, ◌*◌, ◌^◌, ◌<◌, ◌≤◌, ℤ, pos, ◌+ℤ◌, unsigned_abs, List, [], ◌∷◌, ◌++◌, refl}
+use Rattle.std.proofs.Common.{ap, sym, ◌∙◌, arith}
 use Rattle.std.proofs.lemmas.Int.{unsigned_abs-mul}
-use Rattle.std.proofs.lemmas.List.{take-append-drop}
 use Rattle.mm_poly.specs.declared.term.Term.{Term}
 use Rattle.mm_poly.specs.Poly.{norm, spread, degree, coeff_of, IsPoly, Fits, add_term, plus, times_term, times}
 use Rattle.mm_poly.specs.Product.{term_times, term_products, all_products, AllNonZero}
@@ -19,11 +18,11 @@ nonzero_append : (xs ys : List Term) → AllNonZero xs → AllNonZero ys → All
 nonzero_append [] ys a b = b
 nonzero_append (x ∷ xs) ys a b = (a.0, nonzero_append xs ys a.1 b)
 
-front_of : (xs ys : List Term) → AllNonZero (xs ++ ys) → AllNonZero xs
+pub front_of : (xs ys : List Term) → AllNonZero (xs ++ ys) → AllNonZero xs
 front_of [] ys a = tt
 front_of (x ∷ xs) ys a = (a.0, front_of xs ys a.1)
 
-back_of : (xs ys : List Term) → AllNonZero (xs ++ ys) → AllNonZero ys
+pub back_of : (xs ys : List Term) → AllNonZero (xs ++ ys) → AllNonZero ys
 back_of [] ys a = a
 back_of (x ∷ xs) ys a = back_of xs ys a.1
 
@@ -37,11 +36,11 @@ poly_into [] q a b = b
 poly_into (t ∷ xs) q a b = poly_add_term t (plus xs q) a.0 (poly_into xs q a.1 b)
 
 -- the sum of a monomial's coefficients
-abbrev total_of : List Term → List (ℕ × ℕ) → ℤ
+abbrev pub total_of : List Term → List (ℕ × ℕ) → ℤ
 total_of [] m = pos 0
 total_of (t ∷ ts) m = coeff_of (t ∷ []) m +ℤ total_of ts m
 
-coeff_into : (xs q : List Term) (m : List (ℕ × ℕ)) → AllNonZero xs → IsPoly q → coeff_of (plus xs q) m ≡ total_of xs m +ℤ coeff_of q m
+pub coeff_into : (xs q : List Term) (m : List (ℕ × ℕ)) → AllNonZero xs → IsPoly q → coeff_of (plus xs q) m ≡ total_of xs m +ℤ coeff_of q m
 coeff_into [] q m a b = sym (zero_sum (coeff_of q m))
 coeff_into (t ∷ xs) q m a b =
     coeff_add_term t (plus xs q) m (poly_into xs q a.1 b)
@@ -62,48 +61,11 @@ plus_append (t ∷ xs) ys q = ap (λ (r : List Term). add_term t r) (plus_append
 pub joined_append : (xs ys : List Term) → AllNonZero xs → AllNonZero ys → plus (plus xs []) (plus ys []) ≡ plus (xs ++ ys) []
 joined_append xs ys a b = joined_first xs (plus ys []) a (poly_into ys [] b tt) ∙ sym (plus_append xs ys [])
 
-poly_joined : (xs : List Term) → AllNonZero xs → IsPoly (plus xs [])
+pub poly_joined : (xs : List Term) → AllNonZero xs → IsPoly (plus xs [])
 poly_joined xs a = poly_into xs [] a tt
 
-norm_joined : (xs : List Term) → norm (plus xs []) ≤ norm xs
+pub norm_joined : (xs : List Term) → norm (plus xs []) ≤ norm xs
 norm_joined xs = omega (arith, norm_plus xs [])
-
-pub few_joined : (xs : List Term) → AllNonZero xs → length xs ≤ 1 → plus xs [] ≡ xs
-few_joined [] a h = refl
-few_joined (t ∷ []) a h = refl
-few_joined (t ∷ u ∷ us) a h = absurd (omega arith)
-
-pub nonzero_take : (n : ℕ) (xs : List Term) → AllNonZero xs → AllNonZero (take n xs)
-nonzero_take n xs a = front_of (take n xs) (drop n xs) (subst (λ ys. AllNonZero ys) (sym (take-append-drop n xs)) a)
-
-pub nonzero_drop : (n : ℕ) (xs : List Term) → AllNonZero xs → AllNonZero (drop n xs)
-nonzero_drop n xs a = back_of (take n xs) (drop n xs) (subst (λ ys. AllNonZero ys) (sym (take-append-drop n xs)) a)
-
-pub norm_halves : (n : ℕ) (xs : List Term) → norm (take n xs) + norm (drop n xs) ≡ norm xs
-norm_halves n xs = sym (norm_append (take n xs) (drop n xs)) ∙ ap (λ (ys : List Term). norm ys) (take-append-drop n xs)
-
--- the joined halves of a list: polynomials, of which the sum is the joined list
-pub record Halves (left right whole : List Term) : Type 0 where
-  pub left_order : IsPoly left
-  pub right_order : IsPoly right
-  pub small : norm left + norm right ≤ norm whole
-  pub joined : plus left right ≡ plus whole []
-
-halves_of : (n : ℕ) (xs : List Term) → AllNonZero xs → Halves (plus (take n xs) []) (plus (drop n xs) []) xs
-halves_of n xs a = record {
-  left_order = poly_joined (take n xs) (nonzero_take n xs a);
-  right_order = poly_joined (drop n xs) (nonzero_drop n xs a);
-  small = omega (arith, norm_joined (take n xs), norm_joined (drop n xs), norm_halves n xs);
-  joined = joined_append (take n xs) (drop n xs) (nonzero_take n xs a) (nonzero_drop n xs a)
-      ∙ ap (λ (ys : List Term). plus ys []) (take-append-drop n xs);
-}
-
-pub halves : (n : ℕ) (xs front back left right : List Term) → AllNonZero xs → front ≡ take n xs → back ≡ drop n xs
-    → left ≡ plus front [] → right ≡ plus back [] → Halves left right xs
-halves n xs front back left right a f b l r =
-    let p : left ≡ plus (take n xs) [] = l ∙ ap (λ (ys : List Term). plus ys []) f in
-    let q : right ≡ plus (drop n xs) [] = r ∙ ap (λ (ys : List Term). plus ys []) b in
-    subst (λ ys. Halves left ys xs) (sym q) (subst (λ ys. Halves ys (plus (drop n xs) []) xs) (sym p) (halves_of n xs a))
 
 nonzero_products : (t : Term) (us : List Term) → t.coeff ≢ pos 0 → AllNonZero us → AllNonZero (term_products t us)
 nonzero_products t [] n a = tt

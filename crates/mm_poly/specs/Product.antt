@@ -1,7 +1,8 @@
 -- The products of two polynomials' terms, before equal monomials are joined.
-use Rattle.std.specs.Prelude.{◌≢◌, pos, ◌*ℤ◌, List, [], ◌∷◌, ◌++◌}
+use Rattle.std.specs.Prelude.{◌≢◌, ℕ, pos, ◌*ℤ◌, List, [], ◌∷◌, ◌++◌}
+use Rattle.std.specs.declared.cmp.Ordering.TheVariants.{Greater}
 use Rattle.mm_poly.specs.declared.term.Term.{Term}
-use Rattle.mm_poly.specs.Mono.{mono_times}
+use Rattle.mm_poly.specs.Mono.{mono_cmp, mono_times}
 
 abbrev pub term_times : Term → Term → Term
 term_times t u = record { coeff = t.coeff *ℤ u.coeff; mono = mono_times t.mono u.mono }
@@ -20,3 +21,7 @@ all_products (t ∷ p) q = term_products t q ++ all_products p q
 abbrev pub AllNonZero : List Term → Type 0
 AllNonZero [] = Unit {0}
 AllNonZero (t ∷ ts) = (t.coeff ≢ pos 0) × AllNonZero ts
+
+-- a term doesn't come after a monomial
+abbrev pub NotAfter : List (ℕ × ℕ) → Term → Type 0
+NotAfter m t = mono_cmp t.mono m ≢ Greater

@@ -1,9 +1,10 @@
-ghost use Rattle.std.specs.Prelude.{◌≡◌, ◌+◌, ◌*◌, ◌^◌, ◌<◌, ◌≤◌, [], ◌++◌, unsigned_abs, length, IfOk, OnOk};
+ghost use Rattle.std.specs.Prelude.{◌≡◌, ◌≢◌, ◌+◌, ◌*◌, ◌^◌, ◌<◌, ◌≤◌, pos, [], ◌∷◌, ◌++◌, unsigned_abs, length, IfOk, OnOk};
+ghost use Rattle.std.specs.List.{All};
 ghost use Rattle.mm_poly.specs.Mono.{mono_degree};
-ghost use Rattle.mm_poly.specs.Poly.{IsPoly, norm, degree, plus, times};
-ghost use Rattle.mm_poly.specs.Product.{AllNonZero, term_products, all_products};
+ghost use Rattle.mm_poly.specs.Poly.{IsPoly, norm, degree, with_coeff, plus, times};
+ghost use Rattle.mm_poly.specs.Product.{AllNonZero, NotAfter, term_products, all_products};
 
-use crate::sum::{copies, merge};
+use crate::mono::Mono;
 use crate::term::Term;
 use std::alloc::{AllocError, Global};
 
@@ -16,22 +17,61 @@ pub fn product(alloc: Global, left: &[Term], right: &[Term]) -> Result<Vec<Term>
     ensures { IfOk result (λ terms. terms.items ≡ times left.now right.now) }
 {
     let terms = products(alloc, left, right)?;
-    joined(alloc, &terms)
+    joined(alloc, terms)
 }
 
-/// Terms in any order, put in monomial order, with the sum for a monomial that several have.
-pub fn joined(alloc: Global, terms: &[Term]) -> Result<Vec<Term>, AllocError>
-    requires nonzero { AllNonZero terms.now }
-    requires small { norm terms.now < 2 ^ 126 }
-    ensures { IfOk result (λ out. out.items ≡ plus terms.now []) }
+// Terms in any order, put in monomial order, with the sum for a monomial that several have.
+fn joined(alloc: Global, mut terms: Vec<Term>) -> Result<Vec<Term>, AllocError>
+    requires nonzero { AllNonZero terms.items }
+    requires small { norm terms.items < 2 ^ 126 }
+    ensures { IfOk result (λ out. out.items ≡ plus terms.items []) }
 {
-    if terms.len() <= 1 {
-        return copies(alloc, terms);
+    terms.sort_unstable_by(|first, second| first.mono.order(&second.mono));
+    let mut out = Vec::new(alloc);
+    for term in terms {
+        push_joined(&mut out, term)?;
     }
-    let (front, back) = terms.split_at(terms.len() / 2);
-    let front = joined(alloc, front)?;
-    let back = joined(alloc, back)?;
-    merge(alloc, &front, &back)
+    out.shrink_to_fit();
+    Ok(out)
+}
+
+// One more term, none of the others after it; joined to the last where that has its monomial.
+fn push_joined(out: &mut Vec<Term>, term: Term) -> Result<(), AllocError>
+    requires order { IsPoly out.old.items }
+    requires after { All (NotAfter term.mono) out.old.items }
+    requires nonzero { term.coeff ≢ pos 0 }
+    requires small { norm out.old.items + unsigned_abs term.coeff < 2 ^ 126 }
+    ensures { OnOk result (out.new.items ≡ plus out.old.items (term ∷ [])) }
+{
+    match out.pop() {
+        Some(last) => push_both(out, last, term),
+        None => Ok(out.push(term)?),
+    }
+}
+
+fn push_both(out: &mut Vec<Term>, last: Term, term: Term) -> Result<(), AllocError>
+    requires order { IsPoly (out.old.items ++ last ∷ []) }
+    requires after { NotAfter term.mono last }
+    requires nonzero { term.coeff ≢ pos 0 }
+    requires small { unsigned_abs last.coeff + unsigned_abs term.coeff < 2 ^ 126 }
+    ensures { OnOk result (out.new.items ≡ plus (out.old.items ++ last ∷ []) (term ∷ [])) }
+{
+    if last.mono.same(&term.mono) {
+        push_nonzero(out, last.coeff + term.coeff, term.mono)
+    } else {
+        out.push(last)?;
+        Ok(out.push(term)?)
+    }
+}
+
+// No term where the coefficient is 0.
+fn push_nonzero(out: &mut Vec<Term>, coeff: i128, mono: Mono) -> Result<(), AllocError>
+    ensures { OnOk result (out.new.items ≡ out.old.items ++ with_coeff coeff mono []) }
+{
+    if coeff != 0 {
+        out.push(Term { coeff, mono })?;
+    }
+    Ok(())
 }
 
 // Each term of one times each term of the other.

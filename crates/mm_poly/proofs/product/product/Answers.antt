@@ -7,13 +7,13 @@ use Rattle.mm_poly.proofs.product.product.Goals as goal
 
 pub joined-requires-clause-nonzero : goal.joined-requires-clause-nonzero
 joined-requires-clause-nonzero c =
-    subst (λ ts. AllNonZero ts) (sym (c.deref.ensures.value ∙ c.in_ok-terms.ensures)) (nonzero_all c.args.left.now c.args.right.now (nonzero_of _ c.requires.left) (nonzero_of _ c.requires.right))
+    subst (λ ts. AllNonZero ts) (sym c.in_ok-terms.ensures) (nonzero_all c.args.left.now c.args.right.now (nonzero_of _ c.requires.left) (nonzero_of _ c.requires.right))
 
 pub joined-requires-clause-small : goal.joined-requires-clause-small
 joined-requires-clause-small c =
-    omega (arith, ap (λ (ts : List Term). norm ts) (c.deref.ensures.value ∙ c.in_ok-terms.ensures), norm_all c.args.left.now c.args.right.now, c.requires.small)
+    omega (arith, ap (λ (ts : List Term). norm ts) c.in_ok-terms.ensures, norm_all c.args.left.now c.args.right.now, c.requires.small)
 
 pub returns : goal.returns
 returns c =
-    let e = ap (λ (ts : List Term). plus ts []) (c.deref.ensures.value ∙ c.in_ok-terms.ensures) ∙ sym (times_all c.args.left.now c.args.right.now (nonzero_of _ c.requires.left) (nonzero_of _ c.requires.right)) in
+    let e = ap (λ (ts : List Term). plus ts []) c.in_ok-terms.ensures ∙ sym (times_all c.args.left.now c.args.right.now (nonzero_of _ c.requires.left) (nonzero_of _ c.requires.right)) in
     subst (λ ts. IfOk c.joined.result (λ out. out.items ≡ ts)) e c.joined.ensures

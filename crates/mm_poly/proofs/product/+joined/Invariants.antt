@@ -1,5 +1,0 @@
-use Rattle.std.specs.Prelude.{length}
-use Rattle.mm_poly.proofs.product.+joined.Given as goal
-
-abbrev pub decreases-joined : goal.decreases-joined
-decreases-joined l = length l.terms.now
