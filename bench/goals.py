@@ -1,9 +1,9 @@
 #!/usr/bin/env python3
 """Times of reading, sorting and printing goals. Usage: bench/goals.py [MIB]
 
-The server doesn't read goals yet, so a small program round `read_file`, `sorts` and `print_goal` is made, proved and built in a copy of the
-crates that it stands on, outside the repository. Each line tells the time of one run and its peak memory, also of the
-same bytes only read from the input.
+The server doesn't read goals yet, so a small program round `read_file`, `sorts` and `print_goal` is made, proved and
+built in a copy of the crates that it stands on, outside the repository. Each line tells the time of one run that reads,
+of one that sorts and prints too, and of one that only reads the bytes, each with its peak memory.
 """
 import os
 import shutil
@@ -123,13 +123,23 @@ def main():
             lines = [line for line in file if line.split(":")[0] in CRATES]
         with open(f"{copy}/crates.txt", "w") as file:
             file.writelines(lines + ["goal_bench: goal_print goal_text goal_sort goal_ast goal_token sqlite_items\n"])
-        subprocess.run(["rt", "run"], cwd=f"{copy}/crates/goal_bench", stdin=subprocess.DEVNULL, check=True, stdout=subprocess.DEVNULL)
+        subprocess.run(
+            ["rt", "run"],
+            cwd=f"{copy}/crates/goal_bench",
+            stdin=subprocess.DEVNULL,
+            stdout=subprocess.DEVNULL,
+            check=True,
+        )
         program = f"{copy}/crates/goal_bench/out/goal_bench"
         for name, data in [("goals", text(size)), ("goals and comments", padded(size))]:
             spent, memory, status = run(program, ["read"], data)
             whole, most, _ = run(program, ["read", "print"], data)
             before, held, _ = run(program, [], data)
-            print(f"{name}, {len(data) / 2**20:.1f} MiB: {spent:.2f} s and {memory:.0f} MiB, sorted and printed too {whole:.2f} s and {most:.0f} MiB, input alone {before:.2f} s and {held:.0f} MiB, status {status}")
+            print(
+                f"{name}, {len(data) / 2**20:.1f} MiB: {spent:.2f} s and {memory:.0f} MiB, "
+                f"sorted and printed too {whole:.2f} s and {most:.0f} MiB, "
+                f"input alone {before:.2f} s and {held:.0f} MiB, status {status}"
+            )
 
 
 main()
