@@ -1,8 +1,9 @@
 #!/usr/bin/env python3
 """Times of `mm check` on generated inputs. Usage: bench/check.py MM [REPEATS]
 
-MM is the proved program, crates/mm/out/mm after `rt run` in crates/mm. Each line tells the least time of the runs, the
-time of the same rows without the work that is measured, and the peak memory.
+MM is the proved program, crates/mm/out/mm after `rt run` in crates/mm. Each line tells the least time of the runs,
+the time of the same rows without the work that is measured, and the peak memory, which is never less than this
+script's own.
 """
 import os
 import random

@@ -2,8 +2,9 @@
 """Times of reading, sorting and printing goals. Usage: bench/goals.py [MIB]
 
 The server doesn't read goals yet, so a small program round `read_file`, `sorts` and `print_goal` is made, proved and
-built in a copy of the crates that it stands on, outside the repository. Each line tells the time of one run that reads,
-of one that sorts and prints too, and of one that only reads the bytes, each with its peak memory.
+built in a copy of the crates that it stands on, outside the repository. Each line tells the time of one run that
+reads, of one that sorts and prints too, and of one that only reads the bytes, each with its peak memory, which is
+never less than this script's own.
 """
 import os
 import shutil
