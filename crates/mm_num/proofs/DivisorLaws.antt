@@ -1,9 +1,10 @@
 -- The greatest number that divides both is divided by each that does.
-use Rattle.std.specs.Prelude.{◌≡◌, ℕ, zero, suc, ◌+◌, ◌*◌, ◌%◌, ◌<◌, ◌≤◌, max, Bool, true, false, cond, ◌==◌, ◌&&◌, ◌⊎◌, refl}
-use Rattle.std.proofs.Common.{ap, sym, ◌∙◌, subst, inl, inr, arith, zero-le}
-use Rattle.std.proofs.Math.Nat.{eq-zero_of_zero-dvd, pos_of_dvd_of_pos, eq-or-lt_of_le}
+use Rattle.std.specs.Prelude.{◌≡◌, ℕ, zero, suc, ◌%◌, ◌<◌, ◌≤◌, max, Bool, true, false, cond, refl}
+use Rattle.std.proofs.Common.{ap, sym, ◌∙◌, inl, inr, arith}
+use Rattle.std.proofs.Math.Nat.{eq-zero_of_zero-dvd, eq-or-lt_of_le}
 use Rattle.std.specs.Int.{IsGcd, ◌∣◌}
 use Rattle.std.proofs.lemmas.Nat.Gcd.{IsGcd-from_zero, IsGcd-from_mod, le_from_IsGcd, dvd_of_mod-eq-zero, mod-eq-zero_of_dvd, le_of_dvd, dvd-zero}
+use Rattle.mm_num.proofs.BoolLaws.{never}
 use Rattle.mm_num.specs.Divisor.{divides_both, greatest_common, gcd_of}
 
 -- Euclid's algorithm shows that there is one
@@ -37,14 +38,10 @@ found_divides (suc m) a b h =
     (λ e _. let p = divides_both_is (suc m) a b e in (dvd_of_mod-eq-zero (suc m) p.0, dvd_of_mod-eq-zero (suc m) p.1))
     (λ e k. found_divides m a b k) h
 
--- a test doesn't go both ways
-differ : {P : Type 0} → false ≡ true → P
-differ h = cc
-
 -- a common divisor that isn't suc m is below it
 below : (m a b d : ℕ) → d ≤ suc m → a % d ≡ 0 → b % d ≡ 0 → divides_both (suc m) a b ≡ false → d ≤ m
 below m a b d le p q e = elim (eq-or-lt_of_le le) as (λ _. d ≤ m) [
-  | inl same ↦ differ (sym e ∙ ap (λ k. divides_both k a b) (sym same) ∙ divides_both_when d a b p q)
+  | inl same ↦ never (sym e ∙ ap (λ k. divides_both k a b) (sym same) ∙ divides_both_when d a b p q)
   | inr less ↦ omega arith
 ]
 

@@ -1,3 +1,6 @@
 pub mod Ring
 pub mod QuotientLaws
 pub mod DivisorLaws
+pub mod FracLaws
+pub mod BoolLaws
+pub mod OptionLaws

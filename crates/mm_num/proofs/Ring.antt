@@ -1,5 +1,5 @@
 -- The identities of a ring over the integers, stated once. Close an identity over variables by `simp ring`.
-use Rattle.std.specs.Prelude.{◌≡◌, ℕ, ◌*◌, ◌≤◌, ℤ, pos, negsuc, ◌+ℤ◌, ◌-ℤ◌, ◌*ℤ◌, ◌≤ℤ◌, neg_ℤ, refl}
+use Rattle.std.specs.Prelude.{◌≡◌, zero, suc, ◌*◌, ℤ, pos, negsuc, ◌+ℤ◌, ◌*ℤ◌, ◌≤ℤ◌, ◌<ℤ◌, neg_ℤ, refl}
 use Rattle.std.proofs.Common.{ap, sym, ◌∙◌, arith}
 use Rattle.std.proofs.lemmas.Int.{ints}
 use borrow.Author.Differences.{up, down, sum_is_lem, product_is, neg_is}
@@ -49,3 +49,19 @@ square_nonneg (negsuc n) = omega (arith, ints)
 -- a product of two numbers of at least 0 is at least 0
 pub product_nonneg : (a b : ℤ) → pos 0 ≤ℤ a → pos 0 ≤ℤ b → pos 0 ≤ℤ (a *ℤ b)
 product_nonneg a b h k = grind (arith, ints)
+
+-- and a product of two numbers above 0 is above 0
+pub product_positive : (a b : ℤ) → pos 0 <ℤ a → pos 0 <ℤ b → pos 0 <ℤ (a *ℤ b)
+product_positive (pos (suc a)) (pos (suc b)) h k = omega (arith, ints)
+product_positive (pos zero) b h k = absurd (omega (arith, ints))
+product_positive (negsuc a) b h k = absurd (omega (arith, ints))
+product_positive (pos (suc a)) (pos zero) h k = absurd (omega (arith, ints))
+product_positive (pos (suc a)) (negsuc b) h k = absurd (omega (arith, ints))
+
+-- a product with a number above 0 is 0 only where the other is
+pub product_zero : (a b : ℤ) → pos 0 <ℤ b → a *ℤ b ≡ pos 0 → a ≡ pos 0
+product_zero (pos zero) b h e = refl
+product_zero (pos (suc a)) b h e = let p : pos 0 <ℤ (pos (suc a) *ℤ b) = product_positive (pos (suc a)) b (omega (arith, ints)) h in absurd (omega (arith, ints, e))
+product_zero (negsuc a) b h e =
+    let p : pos 0 <ℤ (pos (suc a) *ℤ b) = product_positive (pos (suc a)) b (omega (arith, ints)) h in
+    absurd (omega (arith, ints, e, neg_mul (pos (suc a)) b))

@@ -1,4 +1,5 @@
-ghost use Rattle.std.specs.Prelude.{◌≡◌, ◌≤ℤ◌, pos};
+ghost use Rattle.std.specs.Prelude.{◌≡◌, ◌≤ℤ◌, ◌*ℤ◌, pos, unsigned_abs};
+ghost use Rattle.std.specs.Int.{◌∣◌};
 ghost use Rattle.mm_num.specs.Small.{IsSmall};
 ghost use Rattle.mm_num.specs.Quotient.{floor_quotient, ceil_quotient, IsFloor, IsCeiling};
 
@@ -28,6 +29,19 @@ pub fn ceil_div(a: i128, b: i128) -> i128
     ensures small { IsSmall result }
 {
     -rounded_down(-a, b)
+}
+
+/// The quotient by a divisor.
+#[tactic(auto, using(crate::proofs::FracLaws::exact_is))]
+pub fn divided(a: i128, divisor: i128) -> i128
+    requires a { IsSmall a }
+    requires small { IsSmall divisor }
+    requires positive { pos 1 ≤ℤ divisor }
+    requires exact { unsigned_abs divisor ∣ unsigned_abs a }
+    ensures value { divisor *ℤ result ≡ a }
+    ensures small { IsSmall result }
+{
+    rounded_down(a, divisor)
 }
 
 fn rounded_down(a: i128, b: i128) -> i128

@@ -1,4 +1,5 @@
-use crate::{ceil_div, floor_div, gcd};
+use crate::{Frac, ceil_div, floor_div, gcd};
+use std::test::Fail;
 
 #[test]
 fn quotients_round_down_and_up(rt: HostRuntime) {
@@ -35,4 +36,22 @@ fn common_divisors(rt: HostRuntime) {
     ] {
         assert_eq!(rt; gcd(a, b), divisor, "of {a} and {b}");
     }
+}
+
+#[test]
+fn fractions(rt: HostRuntime) -> Result<(), Fail> {
+    let half = Frac::make(-3, -6).ok_or("half")?;
+    let third = Frac::make(2, 6).ok_or("third")?;
+    for (found, num, den) in [
+        (Some(half), 1, 2),
+        (half.add(&third), 5, 6),
+        (half.mul(&third), 1, 6),
+        (half.div(&third), 3, 2),
+    ] {
+        let fraction = found.ok_or("a fraction")?;
+        assert_eq!(rt; fraction.num(), num, "over {den}");
+        assert_eq!(rt; fraction.den(), den, "under {num}");
+    }
+    assert!(rt; half.cmp(&third).ok_or("an order")?.is_gt());
+    Ok(())
 }

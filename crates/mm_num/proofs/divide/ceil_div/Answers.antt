@@ -1,7 +1,7 @@
-use Rattle.std.proofs.Common.{◌≡◌, ℤ, pos, to_z, of_z, to_z-of_z, unsigned_abs, FitsSigned, rules, arith, ap, ◌∙◌, sym, subst, neg_ℤ, ◌-ℤ◌}
+use Rattle.std.proofs.Common.{◌≡◌, pos, to_z, of_z, arith, ap, ◌∙◌, neg_ℤ, ◌-ℤ◌}
 use Rattle.std.proofs.lemmas.Int.{ints}
 use Rattle.std.specs.Int.{w128}
-use Rattle.mm_num.specs.Quotient.{floor_quotient, IsCeiling}
+use Rattle.mm_num.specs.Quotient.{floor_quotient}
 use Rattle.mm_num.proofs.QuotientLaws.{ceiling_is}
 use Rattle.mm_num.proofs.divide.ceil_div.Goals as goal
 

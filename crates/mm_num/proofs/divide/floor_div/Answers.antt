@@ -1,5 +1,4 @@
-use Rattle.std.proofs.Common.{◌≡◌, ℤ, pos, to_z, of_z, to_z-of_z, unsigned_abs, FitsSigned, rules, arith, ap, ◌∙◌}
-use Rattle.std.proofs.lemmas.Int.{ints, fits_signed_from_abs}
+use Rattle.std.proofs.Common.{◌≡◌, to_z, of_z, rules}
 use Rattle.std.specs.Int.{w128}
 use Rattle.mm_num.specs.Quotient.{floor_quotient}
 use Rattle.mm_num.proofs.QuotientLaws.{floor_is}

@@ -1,12 +1,6 @@
-use Rattle.std.proofs.Common.{arith}
-use Rattle.std.proofs.lemmas.Nat.Gcd.{IsGcd-from_zero, IsGcd-from_mod}
+use Rattle.std.proofs.Common.{ℕ, sym, subst}
+use Rattle.std.specs.Int.{IsGcd}
 use Rattle.mm_num.proofs.divisor.natural_gcd.Goals as goal
 
-pub loop-b-preserved : goal.loop-b-preserved
-loop-b-preserved c = record {
-  divisor = λ g h. c.loop-b.invariant.divisor g (IsGcd-from_mod c.loop-b.a c.loop-b.b g h);
-  within = omega arith;
-}
-
-pub returns-clause-divisor : goal.returns-clause-divisor
-returns-clause-divisor c = c.loop-b.invariant.divisor c.loop-b.a (IsGcd-from_zero c.loop-b.a c.loop-b.b (omega arith))
+pub returns-then-b-clause-divisor : goal.returns-then-b-clause-divisor
+returns-then-b-clause-divisor c = subst (λ (g : ℕ). IsGcd c.args.a c.args.b g) (sym c.from.ensures) c.narrow_gcd.ensures.divisor

@@ -1,6 +1,6 @@
 use Rattle.std.proofs.Common.{ℕ, ◌≤◌, max}
 use Rattle.std.specs.Int.{IsGcd}
-use Rattle.mm_num.proofs.divisor.natural_gcd.Given as goal
+use Rattle.mm_num.proofs.divisor.narrow_gcd.Given as goal
 
 -- a divisor that is the greatest of what is left is that of the two numbers
 abbrev pub invariant-loop-b : goal.invariant-loop-b
