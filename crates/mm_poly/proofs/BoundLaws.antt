@@ -89,7 +89,7 @@ pub degree_scaled : (c : ℤ) (ts : List Term) → degree (scaled c ts) ≤ degr
 degree_scaled c [] = omega arith
 degree_scaled c (t ∷ ts) = omega (arith, degree_with (c *ℤ t.coeff) t.mono (scaled c ts), degree_scaled c ts)
 
-degree_times_factor : (f : ℕ × ℕ) (gs : List (ℕ × ℕ)) → mono_degree (times_factor f gs) ≡ f.1 + mono_degree gs
+pub degree_times_factor : (f : ℕ × ℕ) (gs : List (ℕ × ℕ)) → mono_degree (times_factor f gs) ≡ f.1 + mono_degree gs
 degree_times_factor f [] = refl
 degree_times_factor f (g ∷ gs) = by_factor f g gs (λ r. mono_degree r ≡ f.1 + (g.1 + mono_degree gs))
     (λ e. refl) (λ e. omega arith) (λ e. omega (arith, degree_times_factor f gs))

@@ -1,14 +1,23 @@
 -- What holds in each case of a definition holds of it.
-use Rattle.std.specs.Prelude.{◌≡◌, ◌≢◌, ℕ, ◌+◌, ℤ, pos, ◌+ℤ◌, List, ◌∷◌, cond, refl}
+use Rattle.std.specs.Prelude.{◌≡◌, ◌≢◌, ℕ, ◌+◌, ℤ, pos, ◌+ℤ◌, List, [], ◌∷◌, Bool, true, false, cond, if◌then◌else◌, refl}
 use Rattle.std.proofs.Common.{subst}
 use Rattle.std.specs.declared.cmp.Ordering.{Ordering}
 use Rattle.std.specs.declared.cmp.Ordering.TheVariants.{Less, Equal, Greater}
 use Rattle.std.specs.Ordering.{is_eq, int_eq, int_cmp, nat_cmp}
 use Rattle.std.specs.FinMap.{int_cmp-IsAntisymmetric}
 use Rattle.mm_poly.specs.declared.term.Term.{Term}
-use Rattle.mm_poly.specs.Mono.{mono_cmp, times_factor}
+use Rattle.mm_poly.specs.Mono.{mono_cmp, times_factor, is_constant}
 use Rattle.mm_poly.specs.Poly.{with_coeff, add_term}
 use Rattle.mm_poly.proofs.OrderLaws.{mono_exact}
+
+pub by_if : {A : Type 0} (b : Bool) (x y : A) (P : A → Type 0) → (b ≡ true → P x) → (b ≡ false → P y) → P (if b then x else y)
+by_if true x y P h k = h refl
+by_if false x y P h k = k refl
+
+-- one answer at the constant monomial, and else another one
+pub by_constant : {A : Type 0} (m : List (ℕ × ℕ)) (a b : A) (P : A → Type 0) → P a → P b → P (cond (is_constant m) a b)
+by_constant [] a b P h k = h
+by_constant (f ∷ fs) a b P h k = k
 
 pub by_cases : {G : Type 0} (o : Ordering) → (o ≡ Less → G) → (o ≡ Equal → G) → (o ≡ Greater → G) → G
 by_cases Less l e g = l refl

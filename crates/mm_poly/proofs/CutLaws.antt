@@ -8,7 +8,8 @@ use Rattle.std.proofs.Math.IntN.{*ℤ_comm}
 use Rattle.mm_num.specs.Quotient.{floor_by}
 use Rattle.mm_num.specs.Divisor.{gcd_of}
 use Rattle.mm_num.proofs.Ring.{dist, assoc}
-use Rattle.mm_num.proofs.QuotientLaws.{quotient_below, quotient_above, floor_above}
+use Rattle.mm_num.proofs.QuotientLaws.{floor_above}
+use Rattle.mm_num.proofs.FracLaws.{floor_exact}
 use Rattle.mm_num.proofs.DivisorLaws.{gcd_divides}
 use Rattle.mm_poly.specs.declared.term.Term.{Term}
 use Rattle.mm_poly.specs.Mono.{mono_value, is_constant}
@@ -49,23 +50,6 @@ pub content_divides : (ts : List Term) → DividesAll (content ts) (without_cons
 content_divides [] = tt
 content_divides (t ∷ ts) = divides_step t.coeff t.mono (content ts) (without_constant ts) (content_divides ts)
 
-factor_below : (g q k : ℕ) → 0 < g → g * q < g * k → q < k
-factor_below g q k h l = grind arith
-
-next_quotient : (g n : ℕ) → 0 < g → suc n % g ≡ 0 → g * (n / g + 1) ≡ suc n
-next_quotient g n h e =
-    let k = suc n / g in
-    let w : g * k ≡ suc n = omega (arith, e) in
-    let a : n / g < k = factor_below g (n / g) k h (omega (arith, quotient_below n g h, w)) in
-    let b : k < n / g + 2 = factor_below g k (n / g + 2) h (omega (arith, quotient_above n g h, w)) in
-    let same : n / g + 1 ≡ k = omega arith in
-    ap (λ q. g * q) same ∙ w
-
--- a multiple of g is g times its quotient
-pub exact_floor : (c : ℤ) (g : ℕ) → 0 < g → g ∣ unsigned_abs c → pos g *ℤ floor_by c g ≡ c
-exact_floor (pos n) g h d = let e = mod-eq-zero_of_dvd g d in omega (arith, ints)
-exact_floor (negsuc n) g h d = let e = next_quotient g n h (mod-eq-zero_of_dvd g d) in omega (arith, ints)
-
 divided_term : (g c m f v w : ℤ) → g *ℤ f ≡ c → w ≡ g *ℤ v → c *ℤ m +ℤ w ≡ g *ℤ (f *ℤ m +ℤ v)
 divided_term g c m f v w e h =
     ap (λ z. z *ℤ m +ℤ w) (sym e) ∙ ap (λ z. z +ℤ w) (assoc g f m) ∙ ap (λ z. g *ℤ (f *ℤ m) +ℤ z) h ∙ sym (dist g (f *ℤ m) v)
@@ -75,7 +59,7 @@ pub value_divided : (x : ℕ → ℤ) (g : ℕ) (ts : List Term) → 0 < g → D
 value_divided x g [] h a = sym (mul_zero (pos g))
 value_divided x g (t ∷ ts) h a =
     divided_term (pos g) t.coeff (mono_value x t.mono) (floor_by t.coeff g) (value x (floor_divided g ts)) (value x ts)
-    (exact_floor t.coeff g h a.0) (value_divided x g ts h a.1)
+    (floor_exact t.coeff g h a.0) (value_divided x g ts h a.1)
     ∙ ap (λ v. pos g *ℤ v) (sym (value_with x (floor_by t.coeff g) t.mono (floor_divided g ts)))
 
 -- the cut of whole numbers
@@ -98,13 +82,13 @@ pub cut_number : (g : ℕ) (q k : ℤ) → 0 < g → pos 0 ≤ℤ (pos g *ℤ q 
 cut_number g q k h l = below_one (q +ℤ floor_by k g) (positive_factor g (q +ℤ floor_by k g +ℤ pos 1)
     (cut_sum (pos g *ℤ q) (pos g *ℤ floor_by k g) (pos g) k (pos g *ℤ (q +ℤ floor_by k g +ℤ pos 1)) l (floor_above k g h) (times_next (pos g) q (floor_by k g))))
 
-value_cut : (x : ℕ → ℤ) (g : ℕ) (p : List Term) → value x (plus (floor_divided g (without_constant p)) (constant_of (floor_by (constant_part p) g)))
+pub value_cut : (x : ℕ → ℤ) (g : ℕ) (p : List Term) → value x (plus (floor_divided g (without_constant p)) (constant_of (floor_by (constant_part p) g)))
     ≡ value x (floor_divided g (without_constant p)) +ℤ floor_by (constant_part p) g
 value_cut x g p =
     value_plus x (floor_divided g (without_constant p)) (constant_of (floor_by (constant_part p) g))
     ∙ ap (λ v. value x (floor_divided g (without_constant p)) +ℤ v) (value_constant x (floor_by (constant_part p) g))
 
-value_whole : (x : ℕ → ℤ) (g : ℕ) (p : List Term) → 0 < g → DividesAll g (without_constant p)
+pub value_whole : (x : ℕ → ℤ) (g : ℕ) (p : List Term) → 0 < g → DividesAll g (without_constant p)
     → value x p ≡ pos g *ℤ value x (floor_divided g (without_constant p)) +ℤ constant_part p
 value_whole x g p h a = value_parts x p ∙ ap (λ v. v +ℤ constant_part p) (value_divided x g (without_constant p) h a)
 
@@ -146,4 +130,4 @@ cut_zero x g p h a e =
     let d = dvd_of_mod-eq-zero g (constant_divided x g p h a e) in
     let f = floor_by (constant_part p) g in
     value_cut x g p ∙ zero_factor g (v +ℤ f) h
-    (dist (pos g) v f ∙ ap (λ z. pos g *ℤ v +ℤ z) (exact_floor (constant_part p) g h d) ∙ sym (value_whole x g p h a) ∙ e)
+    (dist (pos g) v f ∙ ap (λ z. pos g *ℤ v +ℤ z) (floor_exact (constant_part p) g h d) ∙ sym (value_whole x g p h a) ∙ e)

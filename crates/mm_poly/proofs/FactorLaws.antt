@@ -1,5 +1,5 @@
 -- How a product of monomials begins, and that it is a monomial.
-use Rattle.std.specs.Prelude.{◌≡◌, ℕ, ◌+◌, ◌<◌, ◌≤◌, List, [], ◌∷◌, refl}
+use Rattle.std.specs.Prelude.{◌≡◌, ℕ, ◌+◌, ◌^◌, ◌<◌, ◌≤◌, List, [], ◌∷◌, refl}
 use Rattle.std.proofs.Common.{ap, sym, ◌∙◌, subst, arith}
 use Rattle.std.specs.declared.cmp.Ordering.TheVariants.{Less, Equal, Greater}
 use Rattle.std.specs.Ordering.{nat_cmp}
@@ -7,39 +7,44 @@ use Rattle.std.specs.Cmp.{ranked}
 use Rattle.std.specs.FinMap.{nat_cmp-IsAntisymmetric}
 use Rattle.mm_poly.specs.Mono.{mono_degree, mono_times, times_factor, VarsAbove, IsMono, IsMonomial}
 use Rattle.mm_poly.proofs.CaseLaws.{by_factor}
+use Rattle.mm_poly.proofs.EachLaws.{below_times}
 use Rattle.mm_poly.proofs.BoundLaws.{degree_mono_times}
 use Rattle.mm_poly.proofs.TestLaws.{nat_less, nat_more, above_through}
 
-less_is : (a b : ℕ) → nat_cmp a b ≡ Less → a < b
+pub less_is : (a b : ℕ) → nat_cmp a b ≡ Less → a < b
 less_is a b h = ranked a b Less (sym h)
 
-more_is : (a b : ℕ) → nat_cmp a b ≡ Greater → b < a
+pub more_is : (a b : ℕ) → nat_cmp a b ≡ Greater → b < a
 more_is a b h = ranked a b Greater (sym h)
 
-above_factor : (v : ℕ) (f : ℕ × ℕ) (gs : List (ℕ × ℕ)) → v < f.0 → VarsAbove v gs → VarsAbove v (times_factor f gs)
+pub above_factor : (v : ℕ) (f : ℕ × ℕ) (gs : List (ℕ × ℕ)) → v < f.0 → VarsAbove v gs → VarsAbove v (times_factor f gs)
 above_factor v f [] h a = (h, tt)
 above_factor v f (g ∷ gs) h a = by_factor f g gs (λ r. VarsAbove v r)
     (λ e. (h, a)) (λ e. (h, a.1)) (λ e. (a.0, above_factor v f gs h a.1))
 
-above_times : (v : ℕ) (a b : List (ℕ × ℕ)) → VarsAbove v a → VarsAbove v b → VarsAbove v (mono_times a b)
+pub above_times : (v : ℕ) (a b : List (ℕ × ℕ)) → VarsAbove v a → VarsAbove v b → VarsAbove v (mono_times a b)
 above_times v [] b h k = k
 above_times v (f ∷ fs) b h k = above_factor v f (mono_times fs b) h.0 (above_times v fs b h.1 k)
 
-mono_factor : (f : ℕ × ℕ) (gs : List (ℕ × ℕ)) → 1 ≤ f.1 → IsMono gs → IsMono (times_factor f gs)
+pub mono_factor : (f : ℕ × ℕ) (gs : List (ℕ × ℕ)) → 1 ≤ f.1 → IsMono gs → IsMono (times_factor f gs)
 mono_factor f [] h m = (h, tt, tt)
 mono_factor f (g ∷ gs) h m = by_factor f g gs (λ r. IsMono r)
     (λ e. let l = less_is f.0 g.0 e in (h, (l, above_through f.0 g.0 gs l m.1), m))
     (λ e. (omega (arith, h), subst (λ v. VarsAbove v gs) (sym (nat_cmp-IsAntisymmetric f.0 g.0 e)) m.1, m.2))
     (λ e. (m.0, above_factor g.0 f gs (more_is f.0 g.0 e) m.1, mono_factor f gs h m.2))
 
-mono_of_times : (a b : List (ℕ × ℕ)) → IsMono a → IsMono b → IsMono (mono_times a b)
+pub mono_of_times : (a b : List (ℕ × ℕ)) → IsMono a → IsMono b → IsMono (mono_times a b)
 mono_of_times [] b h k = k
 mono_of_times (f ∷ fs) b h k = mono_factor f (mono_times fs b) h.0 (mono_of_times fs b h.2 k)
 
-pub monomial_times : (a b : List (ℕ × ℕ)) → IsMono a → IsMono b → mono_degree a + mono_degree b ≤ 255 → IsMonomial (mono_times a b)
-monomial_times a b h k s = record { order = mono_of_times a b h k; degree = omega (arith, degree_mono_times a b) }
+pub monomial_times : (a b : List (ℕ × ℕ)) → IsMonomial a → IsMonomial b → mono_degree a + mono_degree b ≤ 255 → IsMonomial (mono_times a b)
+monomial_times a b h k s = record {
+  order = mono_of_times a b h.order k.order;
+  degree = omega (arith, degree_mono_times a b);
+  room = below_times (2 ^ 32) a b h.room k.room;
+}
 
-factor_first : (f : ℕ × ℕ) (gs : List (ℕ × ℕ)) → VarsAbove f.0 gs → times_factor f gs ≡ f ∷ gs
+pub factor_first : (f : ℕ × ℕ) (gs : List (ℕ × ℕ)) → VarsAbove f.0 gs → times_factor f gs ≡ f ∷ gs
 factor_first f [] a = refl
 factor_first f (g ∷ gs) a = rw (nat_less f.0 g.0 a.0, times_factor) refl
 

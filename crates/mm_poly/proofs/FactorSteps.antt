@@ -101,7 +101,7 @@ pub exponents_fit : (out left right : List (ℕ × ℕ)) (i j : ℕ) (f g : ℕ 
     → f ≡ get_or left i (0, 0) → g ≡ get_or right j (0, 0) → f.1 + g.1 ≤ 255
 exponents_fit out left right i j f g at h k fis gis = let b = both out left right i j f g at h k fis gis in omega (arith, b.small)
 
-no_factors : (xs : List (ℕ × ℕ)) (i : ℕ) → length xs ≤ i → drop i xs ≡ []
+pub no_factors : (xs : List (ℕ × ℕ)) (i : ℕ) → length xs ≤ i → drop i xs ≡ []
 no_factors xs i h = grind (arith, common_steps)
 
 at_end : (out left right : List (ℕ × ℕ)) (i j : ℕ) → Factoring out left right i j → (length left ≤ i) ⊎ (length right ≤ j)

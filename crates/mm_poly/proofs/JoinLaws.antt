@@ -17,13 +17,13 @@ use borrow.Author.Differences.{up, down}
 use Rattle.mm_poly.specs.declared.term.Term.{Term}
 use Rattle.mm_poly.specs.Mono.{mono_cmp}
 use Rattle.mm_poly.specs.Poly.{coeff_of, norm, AllAfter, IsPoly, with_coeff, add_term, plus}
-use Rattle.mm_poly.specs.Product.{AllNonZero, NotAfter}
+use Rattle.mm_poly.specs.Product.{total_of, AllNonZero, NotAfter}
 use Rattle.mm_poly.proofs.OrderLaws.{mono_total, mono_exact, mono_same, mono_back, mono_through}
 use Rattle.mm_poly.proofs.CaseLaws.{by_cases, by_coeff, by_order}
 use Rattle.mm_poly.proofs.ValueLaws.{sum_zero}
 use Rattle.mm_poly.proofs.SumLaws.{plus_less, plus_equal}
 use Rattle.mm_poly.proofs.CoeffLaws.{unique}
-use Rattle.mm_poly.proofs.ProductLaws.{total_of, coeff_into, poly_joined, joined_append, front_of, back_of, norm_append, norm_joined}
+use Rattle.mm_poly.proofs.ProductLaws.{coeff_into, poly_joined, joined_append, front_of, back_of, norm_append, norm_joined}
 
 -- ---- another order
 

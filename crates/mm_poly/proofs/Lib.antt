@@ -2,6 +2,7 @@ pub mod OrderLaws
 pub mod CaseLaws
 pub mod ValueLaws
 pub mod BoundLaws
+pub mod EachLaws
 pub mod PolyLaws
 pub mod CoeffLaws
 pub mod SumLaws
@@ -9,9 +10,14 @@ pub mod MergeSteps
 pub mod MonoLaws
 pub mod TestLaws
 pub mod ScaleSteps
+pub mod ExponentLaws
+pub mod PartLaws
+pub mod OppositeLaws
+pub mod CombinationSteps
 pub mod CutLaws
 pub mod CutBoundLaws
 pub mod ContentLaws
+pub mod DividedLaws
 pub mod ConstantLaws
 pub mod ProductLaws
 pub mod FactorLaws
@@ -20,3 +26,10 @@ pub mod PointLaws
 pub mod PointSteps
 pub mod FactorSteps
 pub mod JoinLaws
+pub mod JoinedLaws
+pub mod FiniteLaws
+pub mod LinearLaws
+pub mod KeepLaws
+pub mod RepeatedLaws
+pub mod RenamingLaws
+pub mod SingleLaws

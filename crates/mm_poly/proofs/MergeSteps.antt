@@ -115,7 +115,7 @@ at_end out left right i j at used = elim used [
       ∙ at.joined
 ]
 
-to_end : (xs : List Term) (i : ℕ) → take (length xs - i) (drop i xs) ≡ drop i xs
+pub to_end : (xs : List Term) (i : ℕ) → take (length xs - i) (drop i xs) ≡ drop i xs
 to_end xs i = grind (arith, common_steps)
 
 -- what is out after the rest of both sides

@@ -3,7 +3,7 @@ use Rattle.std.specs.Prelude.{ℕ, ◌≤◌, List, [], ◌∷◌, length}
 use Rattle.std.proofs.Common.{arith}
 use Rattle.mm_poly.specs.Mono.{mono_degree, IsMono, IsMonomial}
 
-length_below : (fs : List (ℕ × ℕ)) → IsMono fs → length fs ≤ mono_degree fs
+pub length_below : (fs : List (ℕ × ℕ)) → IsMono fs → length fs ≤ mono_degree fs
 length_below [] m = omega arith
 length_below (f ∷ fs) m = omega (arith, length_below fs m.2, m.0)
 

@@ -9,7 +9,7 @@ use Rattle.std.specs.Cmp.Lexicographic.{lists_total}
 use Rattle.std.specs.FinMap.{IsAntisymmetric, nat_cmp-IsAntisymmetric, slice_cmp-IsAntisymmetric}
 use Rattle.mm_poly.specs.Mono.{factor_cmp, mono_cmp, mono_degree}
 
-factor_total : IsTotalOrder factor_cmp
+pub factor_total : IsTotalOrder factor_cmp
 factor_total = then_total (on_total (λ (f : ℕ × ℕ). f.0) nat_cmp_total) (on_total (λ (f : ℕ × ℕ). f.1) (back_total nat_cmp_total))
 
 pub mono_total : IsTotalOrder mono_cmp
@@ -25,7 +25,7 @@ then_second Less r e = cc
 then_second Equal r e = e
 then_second Greater r e = cc
 
-factor_exact : IsAntisymmetric factor_cmp
+pub factor_exact : IsAntisymmetric factor_cmp
 factor_exact f g e =
     let v = nat_cmp-IsAntisymmetric f.0 g.0 (then_first _ _ e) in
     let x = nat_cmp-IsAntisymmetric g.1 f.1 (then_second _ _ e) in

@@ -4,8 +4,9 @@ use Rattle.std.proofs.Common.{ap, arith}
 use Rattle.std.proofs.Math.Nat.{mul-le-mul, mul-le-mul_left, mul-le-mul_right, pow-zero, pow-succ', pow-le-pow_left, pow-le-pow_right, one-le-pow}
 use Rattle.std.proofs.lemmas.Nat.{pow-add}
 use Rattle.std.proofs.lemmas.Int.{unsigned_abs-mul}
+use Rattle.mm_num.specs.Power.{power}
 use Rattle.mm_poly.specs.declared.term.Term.{Term}
-use Rattle.mm_poly.specs.Mono.{power, mono_value, mono_degree}
+use Rattle.mm_poly.specs.Mono.{mono_value, mono_degree}
 use Rattle.mm_poly.specs.Poly.{term_value}
 use Rattle.mm_poly.specs.Point.{point_of, greatest_magnitude}
 

@@ -5,14 +5,16 @@ use Rattle.std.proofs.Math.Nat.{mul-le-mul_left, pow-zero, pow-succ', one-le-pow
 use Rattle.std.proofs.Math.IntN.{*ℤ_comm}
 use Rattle.std.proofs.lemmas.Int.{ints}
 use Rattle.std.specs.Int.{w128}
+use Rattle.mm_num.specs.Power.{power}
 use Rattle.mm_num.proofs.Ring.{assoc}
 use Rattle.mm_poly.specs.declared.term.Term.{Term}
-use Rattle.mm_poly.specs.Mono.{power, mono_value, mono_degree}
-use Rattle.mm_poly.specs.Poly.{value, term_value, norm, degree}
-use Rattle.mm_poly.specs.Point.{point_of, greatest_magnitude, value_bound, VarsBelow, HasPlaces}
+use Rattle.mm_poly.specs.Mono.{mono_value, mono_degree, VarsBelow}
+use Rattle.mm_poly.specs.Poly.{value, term_value, norm, degree, HasPlaces}
+use Rattle.mm_poly.specs.Point.{point_of, greatest_magnitude, value_bound}
 use Rattle.mm_poly.proofs.ValueLaws.{sum_zero, sum_assoc, one_mul, zero_sum}
 use Rattle.mm_poly.proofs.BoundLaws.{abs_sum}
 use Rattle.mm_poly.proofs.MergeSteps.{front, no_more}
+use Rattle.mm_poly.proofs.FactorSteps.{no_factors}
 use Rattle.mm_poly.proofs.PointLaws.{place_small, term_small, part_of_power, raised, below_power, powers, smaller_base}
 
 -- what is reached, times the power that is left, is all of it
@@ -126,12 +128,6 @@ evaluate point t p n v e r h new is =
           ∙ r.joined;
       places = (subst (λ fs. VarsBelow (length point) fs) (factor_front t.mono n v e h) r.places).1;
     }
-
-no_factors : (fs : List (ℕ × ℕ)) (n : ℕ) → length fs ≤ n → drop n fs ≡ []
-no_factors [] zero h = refl
-no_factors [] (suc n) h = refl
-no_factors (f ∷ fs) zero h = absurd (omega arith)
-no_factors (f ∷ fs) (suc n) h = no_factors fs n (omega arith)
 
 pub all_evaluated : (point : List ℤ) (t : Term) (p : ℤ) (n : ℕ) → Evaluating point t p n → length t.mono ≤ n → p ≡ term_value (point_of point) t
 all_evaluated point t p n r h =

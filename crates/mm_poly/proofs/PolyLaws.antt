@@ -4,10 +4,11 @@ use Rattle.std.proofs.Common.{ap, sym, ◌∙◌, arith}
 use Rattle.std.proofs.lemmas.Int.{ints, unsigned_abs-mul}
 use Rattle.std.specs.declared.cmp.Ordering.TheVariants.{Less}
 use Rattle.mm_poly.specs.declared.term.Term.{Term}
-use Rattle.mm_poly.specs.Mono.{mono_cmp, mono_times}
+use Rattle.mm_poly.specs.Mono.{mono_cmp, mono_times, IsMono, VarsBelow}
 use Rattle.mm_poly.specs.Poly.{norm, spread, AllAfter, IsPoly, Fits, with_coeff, add_term, plus, scaled, times_term, times}
 use Rattle.mm_poly.proofs.OrderLaws.{mono_back, mono_through}
 use Rattle.mm_poly.proofs.CaseLaws.{by_coeff, by_order}
+use Rattle.mm_poly.proofs.EachLaws.{each_plus, each_scaled}
 use Rattle.mm_poly.proofs.BoundLaws.{norm_plus, norm_scaled, spread_plus, spread_scaled, degree_plus, degree_scaled}
 
 pub after_through : (m k : List (ℕ × ℕ)) (ts : List Term) → mono_cmp m k ≡ Less → AllAfter k ts → AllAfter m ts
@@ -76,6 +77,8 @@ poly_times (t ∷ p) q a b = poly_plus (times_term t q) (times p q) (poly_times_
 pub fits_plus : (p q : List Term) → Fits p → Fits q → norm p + norm q < 2 ^ 126 → spread p + spread q ≤ 65536 → Fits (plus p q)
 fits_plus p q a b n s = record {
   order = poly_plus p q a.order b.order;
+  monos = each_plus IsMono p q a.monos b.monos;
+  room = each_plus (VarsBelow (2 ^ 32)) p q a.room b.room;
   norm = omega (arith, norm_plus p q, n);
   spread = omega (arith, spread_plus p q, s);
   degree = omega (arith, degree_plus p q, a.degree, b.degree);
@@ -84,6 +87,8 @@ fits_plus p q a b n s = record {
 pub fits_scaled : (c : ℤ) (p : List Term) → Fits p → norm p * unsigned_abs c < 2 ^ 126 → Fits (scaled c p)
 fits_scaled c p a n = record {
   order = poly_scaled c p a.order;
+  monos = each_scaled IsMono c p a.monos;
+  room = each_scaled (VarsBelow (2 ^ 32)) c p a.room;
   norm = omega (arith, norm_scaled c p, n);
   spread = omega (arith, spread_scaled c p, a.spread);
   degree = omega (arith, degree_scaled c p, a.degree);

@@ -1,10 +1,13 @@
 -- The terms of a list in any order, joined, are a polynomial, and so is the product.
-use Rattle.std.specs.Prelude.{◌≡◌, ◌≢◌, ℕ, ◌+◌, ◌*◌, ◌^◌, ◌<◌, ◌≤◌, ℤ, pos, ◌+ℤ◌, unsigned_abs, List, [], ◌∷◌, ◌++◌, refl}
+use Rattle.std.specs.Prelude.{◌≡◌, ◌≢◌, ℕ, ◌+◌, ◌*◌, ◌^◌, ◌<◌, ◌≤◌, pos, ◌+ℤ◌, unsigned_abs, List, [], ◌∷◌, ◌++◌, refl}
 use Rattle.std.proofs.Common.{ap, sym, ◌∙◌, arith}
 use Rattle.std.proofs.lemmas.Int.{unsigned_abs-mul}
 use Rattle.mm_poly.specs.declared.term.Term.{Term}
+use Rattle.mm_poly.specs.Mono.{IsMono}
 use Rattle.mm_poly.specs.Poly.{norm, spread, degree, coeff_of, IsPoly, Fits, add_term, plus, times_term, times}
-use Rattle.mm_poly.specs.Product.{term_times, term_products, all_products, AllNonZero}
+use Rattle.mm_poly.specs.Product.{total_of, term_times, term_products, all_products, AllNonZero}
+use Rattle.mm_poly.proofs.FactorLaws.{mono_of_times}
+use Rattle.mm_poly.proofs.EachLaws.{each_times, places_times}
 use Rattle.mm_poly.proofs.ValueLaws.{zero_sum, sum_zero, sum_assoc}
 use Rattle.mm_poly.proofs.BoundLaws.{norm_plus, norm_times, spread_times, degree_times}
 use Rattle.mm_poly.proofs.PolyLaws.{poly_add_term, poly_plus, poly_times, product_nonzero}
@@ -14,7 +17,7 @@ pub nonzero_of : (p : List Term) → IsPoly p → AllNonZero p
 nonzero_of [] a = tt
 nonzero_of (t ∷ p) a = (a.0, nonzero_of p a.2)
 
-nonzero_append : (xs ys : List Term) → AllNonZero xs → AllNonZero ys → AllNonZero (xs ++ ys)
+pub nonzero_append : (xs ys : List Term) → AllNonZero xs → AllNonZero ys → AllNonZero (xs ++ ys)
 nonzero_append [] ys a b = b
 nonzero_append (x ∷ xs) ys a b = (a.0, nonzero_append xs ys a.1 b)
 
@@ -31,14 +34,9 @@ norm_append [] ys = omega arith
 norm_append (x ∷ xs) ys = omega (arith, norm_append xs ys)
 
 -- terms put into a polynomial
-poly_into : (xs q : List Term) → AllNonZero xs → IsPoly q → IsPoly (plus xs q)
+pub poly_into : (xs q : List Term) → AllNonZero xs → IsPoly q → IsPoly (plus xs q)
 poly_into [] q a b = b
 poly_into (t ∷ xs) q a b = poly_add_term t (plus xs q) a.0 (poly_into xs q a.1 b)
-
--- the sum of a monomial's coefficients
-abbrev pub total_of : List Term → List (ℕ × ℕ) → ℤ
-total_of [] m = pos 0
-total_of (t ∷ ts) m = coeff_of (t ∷ []) m +ℤ total_of ts m
 
 pub coeff_into : (xs q : List Term) (m : List (ℕ × ℕ)) → AllNonZero xs → IsPoly q → coeff_of (plus xs q) m ≡ total_of xs m +ℤ coeff_of q m
 coeff_into [] q m a b = sym (zero_sum (coeff_of q m))
@@ -48,13 +46,13 @@ coeff_into (t ∷ xs) q m a b =
     ∙ sum_assoc (coeff_of (t ∷ []) m) (total_of xs m) (coeff_of q m)
 
 -- it doesn't matter whether they are joined to each other first
-joined_first : (xs q : List Term) → AllNonZero xs → IsPoly q → plus (plus xs []) q ≡ plus xs q
+pub joined_first : (xs q : List Term) → AllNonZero xs → IsPoly q → plus (plus xs []) q ≡ plus xs q
 joined_first xs q a b = unique (plus (plus xs []) q) (plus xs q) (poly_plus (plus xs []) q (poly_into xs [] a tt) b) (poly_into xs q a b)
     (λ m. coeff_plus (plus xs []) q m (poly_into xs [] a tt) b
     ∙ ap (λ v. v +ℤ coeff_of q m) (coeff_into xs [] m a tt ∙ sum_zero (total_of xs m))
     ∙ sym (coeff_into xs q m a b))
 
-plus_append : (xs ys q : List Term) → plus (xs ++ ys) q ≡ plus xs (plus ys q)
+pub plus_append : (xs ys q : List Term) → plus (xs ++ ys) q ≡ plus xs (plus ys q)
 plus_append [] ys q = refl
 plus_append (t ∷ xs) ys q = ap (λ (r : List Term). add_term t r) (plus_append xs ys q)
 
@@ -98,6 +96,8 @@ times_all (t ∷ p) q a b =
 pub fits_times : (p q : List Term) → Fits p → Fits q → norm p * norm q < 2 ^ 126 → spread p * spread q ≤ 65536 → degree p + degree q ≤ 255 → Fits (times p q)
 fits_times p q a b n s d = record {
   order = poly_times p q a.order b.order;
+  monos = each_times IsMono p q mono_of_times a.monos b.monos;
+  room = places_times (2 ^ 32) p q a.room b.room;
   norm = omega (arith, norm_times p q, n);
   spread = omega (arith, spread_times p q, s);
   degree = omega (arith, degree_times p q, d);

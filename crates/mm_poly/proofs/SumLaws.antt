@@ -1,5 +1,5 @@
 -- How a sum begins.
-use Rattle.std.specs.Prelude.{◌≡◌, ℕ, ℤ, pos, ◌+ℤ◌, List, [], ◌∷◌, ◌++◌, refl}
+use Rattle.std.specs.Prelude.{◌≡◌, ◌≢◌, ℕ, ℤ, pos, ◌+ℤ◌, List, [], ◌∷◌, ◌++◌, refl}
 use Rattle.std.proofs.Common.{ap, ◌∙◌, subst, append_assoc}
 use Rattle.std.specs.declared.cmp.Ordering.TheVariants.{Less, Equal, Greater}
 use Rattle.std.specs.Ordering.{int_cmp, ordering_reverse}
@@ -7,27 +7,31 @@ use Rattle.mm_poly.specs.declared.term.Term.{Term}
 use Rattle.mm_poly.specs.Mono.{mono_cmp}
 use Rattle.mm_poly.specs.Poly.{AllAfter, IsPoly, with_coeff, add_term, plus}
 use Rattle.mm_poly.proofs.OrderLaws.{mono_total, mono_exact, mono_back}
-use Rattle.mm_poly.proofs.CaseLaws.{by_cases}
+use Rattle.mm_poly.proofs.CaseLaws.{by_cases, by_coeff}
 use Rattle.mm_poly.proofs.PolyLaws.{after_through, after_plus}
 
-with_front : (c : ℤ) (m : List (ℕ × ℕ)) (ts : List Term) → with_coeff c m [] ++ ts ≡ with_coeff c m ts
+pub with_front : (c : ℤ) (m : List (ℕ × ℕ)) (ts : List Term) → with_coeff c m [] ++ ts ≡ with_coeff c m ts
 with_front c m ts = by_cases (int_cmp c (pos 0)) (λ h. rw (h, with_coeff) refl) (λ h. rw (h, with_coeff) refl) (λ h. rw (h, with_coeff) refl)
 
 pub with_after : (out : List Term) (c : ℤ) (m : List (ℕ × ℕ)) (ts : List Term) → (out ++ with_coeff c m []) ++ ts ≡ out ++ with_coeff c m ts
 with_after out c m ts = append_assoc out (with_coeff c m []) ts ∙ ap (λ (r : List Term). out ++ r) (with_front c m ts)
 
-add_first : (t : Term) (us : List Term) → AllAfter t.mono us → add_term t us ≡ t ∷ us
+pub add_first : (t : Term) (us : List Term) → AllAfter t.mono us → add_term t us ≡ t ∷ us
 add_first t [] a = refl
 add_first t (u ∷ us) a = rw (a.0, add_term) refl
+
+-- a coefficient that isn't 0 isn't left out
+pub with_nonzero : (c : ℤ) (m : List (ℕ × ℕ)) (ts : List Term) → c ≢ pos 0 → with_coeff c m ts ≡ record { coeff = c; mono = m } ∷ ts
+with_nonzero c m ts n = by_coeff c m ts (λ r. r ≡ record { coeff = c; mono = m } ∷ ts) (λ e. absurd (n e)) (λ k. refl)
 
 pub plus_nil : (p : List Term) → IsPoly p → plus p [] ≡ p
 plus_nil [] a = refl
 plus_nil (t ∷ p) a = ap (λ (r : List Term). add_term t r) (plus_nil p a.2) ∙ add_first t p a.1
 
-mono_forth : (a b : List (ℕ × ℕ)) → mono_cmp a b ≡ Less → mono_cmp b a ≡ Greater
+pub mono_forth : (a b : List (ℕ × ℕ)) → mono_cmp a b ≡ Less → mono_cmp b a ≡ Greater
 mono_forth a b e = mono_total.antisymm b a ∙ ap ordering_reverse e
 
-plus_front : (p : List Term) (u : Term) (q : List Term) → AllAfter u.mono p → plus p (u ∷ q) ≡ u ∷ plus p q
+pub plus_front : (p : List Term) (u : Term) (q : List Term) → AllAfter u.mono p → plus p (u ∷ q) ≡ u ∷ plus p q
 plus_front [] u q a = refl
 plus_front (t ∷ p) u q a =
     let g = mono_forth u.mono t.mono a.0 in

@@ -1,29 +1,23 @@
 -- The tests say what they are to tell.
-use Rattle.std.specs.Prelude.{◌≡◌, ◌≢◌, ℕ, zero, suc, ◌+◌, ◌^◌, ◌<◌, ◌≤◌, nat_lt, min, ℤ, pos, List, [], ◌∷◌, length, take, drop, Bool, true, false, ◌&&◌, refl}
-use Rattle.std.proofs.Common.{get_or, ap, sym, ◌∙◌, subst, ltb-true, lt-ltb, arith}
-use Rattle.std.proofs.lemmas.Grind.{common_steps}
+use Rattle.std.specs.Prelude.{◌≡◌, ◌≢◌, ℕ, zero, suc, ◌+◌, ◌^◌, ◌<◌, ◌≤◌, nat_lt, nat_le, min, ℤ, pos, List, [], ◌∷◌, length, drop, Bool, true, false, ◌&&◌, refl}
+use Rattle.std.proofs.Common.{get_or, ap, sym, ◌∙◌, subst, ltb-true, lt-ltb, leb-true, le-leb, arith}
+use Rattle.std.specs.List.{list_all}
 use Rattle.std.specs.declared.cmp.Ordering.{Ordering}
 use Rattle.std.specs.declared.cmp.Ordering.TheVariants.{Less, Equal, Greater}
 use Rattle.std.specs.Cmp.{nat_cmp_total, ranked, tied_itself}
 use Rattle.std.specs.Ordering.{ordering_reverse, is_lt, nat_cmp}
 use Rattle.std.specs.Cmp.Lexicographic.{slice_cmp}
 use Rattle.std.specs.Int.{w128}
+use Rattle.std.proofs.lemmas.Bool.{and_parts, and_from}
 use mir.Val.{of_z}
 use Rattle.mm_poly.specs.declared.term.Term.{Term}
-use Rattle.mm_poly.specs.Mono.{factor_cmp, mono_cmp, mono_degree, IsMono, VarsAbove, IsMonomial}
-use Rattle.mm_poly.specs.Poly.{norm, degree, AllAfter, IsPoly, Fits}
-use Rattle.mm_poly.specs.Tests.{starts_rising, rises, starts_ordered, ordered}
+use Rattle.mm_poly.specs.Mono.{mono_cmp, mono_degree, IsMono, VarsAbove, VarsBelow, IsMonomial}
+use Rattle.mm_poly.specs.Poly.{norm, spread, AllAfter, IsPoly, EachMono, Fits}
+use Rattle.mm_poly.specs.Tests.{starts_rising, rises, have_room, is_monomial, starts_ordered, ordered, is_polynomial}
 use Rattle.mm_poly.proofs.CaseLaws.{by_cases, by_zero}
 use Rattle.mm_poly.proofs.PolyLaws.{after_through}
+use Rattle.mm_poly.proofs.EachLaws.{all_mono, all_room, all_low, all_monomials}
 use Rattle.mm_poly.proofs.MergeSteps.{front}
-
-both : (a b : Bool) → (a && b) ≡ true → (a ≡ true) × (b ≡ true)
-both true b h = (refl, h)
-both false b h = cc
-
-together : (a b : Bool) → a ≡ true → b ≡ true → (a && b) ≡ true
-together true b h k = k
-together false b h k = cc
 
 -- where there is no next one
 pub rising_last : (fs : List (ℕ × ℕ)) (n : ℕ) → length fs ≤ n + 1 → starts_rising (drop n fs) ≡ true
@@ -55,24 +49,43 @@ above_starts f (g ∷ gs) a = lt-ltb f.0 g.0 a.0
 rises_gives : (d : ℕ) (fs : List (ℕ × ℕ)) → d ≤ 255 → rises d fs ≡ true → IsMono fs × (d + mono_degree fs ≤ 255)
 rises_gives d [] k h = (tt, omega arith)
 rises_gives d (f ∷ fs) k h =
-    let a = both (nat_lt 0 f.1 && starts_rising (f ∷ fs)) (nat_lt (d + f.1) 256 && rises (d + f.1) fs) h in
-    let b = both (nat_lt 0 f.1) (starts_rising (f ∷ fs)) a.0 in
-    let e = both (nat_lt (d + f.1) 256) (rises (d + f.1) fs) a.1 in
+    let a = and_parts (nat_lt 0 f.1 && starts_rising (f ∷ fs)) (nat_lt (d + f.1) 256 && rises (d + f.1) fs) h in
+    let b = and_parts (nat_lt 0 f.1) (starts_rising (f ∷ fs)) a.0 in
+    let e = and_parts (nat_lt (d + f.1) 256) (rises (d + f.1) fs) a.1 in
     let small = ltb-true (d + f.1) 256 e.0 in
     let rest = rises_gives (d + f.1) fs (omega (arith, small)) e.1 in
     ((omega (arith, ltb-true 0 f.1 b.0), starts_above f fs b.1 rest.0, rest.0), omega (arith, rest.1))
 
 rises_from : (d : ℕ) (fs : List (ℕ × ℕ)) → IsMono fs → d + mono_degree fs ≤ 255 → rises d fs ≡ true
 rises_from d [] m h = refl
-rises_from d (f ∷ fs) m h = together (nat_lt 0 f.1 && starts_rising (f ∷ fs)) (nat_lt (d + f.1) 256 && rises (d + f.1) fs)
-    (together (nat_lt 0 f.1) (starts_rising (f ∷ fs)) (lt-ltb 0 f.1 (omega (arith, m.0))) (above_starts f fs m.1))
-    (together (nat_lt (d + f.1) 256) (rises (d + f.1) fs) (lt-ltb (d + f.1) 256 (omega arith)) (rises_from (d + f.1) fs m.2 (omega arith)))
+rises_from d (f ∷ fs) m h = and_from (nat_lt 0 f.1 && starts_rising (f ∷ fs)) (nat_lt (d + f.1) 256 && rises (d + f.1) fs)
+    (and_from (nat_lt 0 f.1) (starts_rising (f ∷ fs)) (lt-ltb 0 f.1 (omega (arith, m.0))) (above_starts f fs m.1))
+    (and_from (nat_lt (d + f.1) 256) (rises (d + f.1) fs) (lt-ltb (d + f.1) 256 (omega arith)) (rises_from (d + f.1) fs m.2 (omega arith)))
 
-pub monomial_if : (fs : List (ℕ × ℕ)) → rises 0 fs ≡ true → IsMonomial fs
-monomial_if fs h = let r = rises_gives 0 fs (omega arith) h in record { order = r.0; degree = omega (arith, r.1) }
+room_gives : (fs : List (ℕ × ℕ)) → have_room fs ≡ true → VarsBelow (2 ^ 32) fs
+room_gives [] h = tt
+room_gives (f ∷ fs) h =
+    let p = and_parts (nat_lt f.0 (2 ^ 32)) (have_room fs) h in
+    (ltb-true f.0 (2 ^ 32) p.0, room_gives fs p.1)
+
+room_from : (fs : List (ℕ × ℕ)) → VarsBelow (2 ^ 32) fs → have_room fs ≡ true
+room_from [] a = refl
+room_from (f ∷ fs) a = and_from (nat_lt f.0 (2 ^ 32)) (have_room fs) (lt-ltb f.0 (2 ^ 32) a.0) (room_from fs a.1)
+
+-- factors that rise, and whose variables are below 2^32, are a monomial, and no others are
+pub monomial_if : (fs : List (ℕ × ℕ)) → rises 0 fs ≡ true → VarsBelow (2 ^ 32) fs → IsMonomial fs
+monomial_if fs h v = let r = rises_gives 0 fs (omega arith) h in record { order = r.0; degree = omega (arith, r.1); room = v }
 
 pub monomial_then : (fs : List (ℕ × ℕ)) → IsMonomial fs → rises 0 fs ≡ true
 monomial_then fs m = rises_from 0 fs m.order (omega (arith, m.degree))
+
+pub monomial_given : (fs : List (ℕ × ℕ)) → is_monomial fs ≡ true → IsMonomial fs
+unfolding is_monomial
+monomial_given fs h = let p = and_parts (rises 0 fs) (have_room fs) h in monomial_if fs p.0 (room_gives fs p.1)
+
+pub monomial_from : (fs : List (ℕ × ℕ)) → IsMonomial fs → is_monomial fs ≡ true
+unfolding is_monomial
+monomial_from fs m = and_from (rises 0 fs) (have_room fs) (monomial_then fs m) (room_from fs m.room)
 
 is_less : (o : Ordering) → is_lt o ≡ true → o ≡ Less
 is_less Less h = refl
@@ -91,14 +104,14 @@ pub poly_if : (ts : List Term) → ordered ts ≡ true → IsPoly ts
 poly_if [] h = tt
 poly_if (t ∷ ts) h =
     let a = by_zero t.coeff false (starts_ordered (t ∷ ts) && ordered ts) (λ b. b ≡ true → (t.coeff ≢ pos 0) × (starts_ordered (t ∷ ts) ≡ true) × (ordered ts ≡ true))
-    (λ e k. cc) (λ n k. let r = both (starts_ordered (t ∷ ts)) (ordered ts) k in (n, r.0, r.1)) h in
+    (λ e k. cc) (λ n k. let r = and_parts (starts_ordered (t ∷ ts)) (ordered ts) k in (n, r.0, r.1)) h in
     let p = poly_if ts a.2 in
     (a.0, starts_after t ts a.1 p, p)
 
 pub poly_then : (ts : List Term) → IsPoly ts → ordered ts ≡ true
 poly_then [] p = refl
 poly_then (t ∷ ts) p = by_zero t.coeff false (starts_ordered (t ∷ ts) && ordered ts) (λ b. b ≡ true)
-    (λ e. absurd (p.0 e)) (λ n. together (starts_ordered (t ∷ ts)) (ordered ts) (after_starts t ts p.1) (poly_then ts p.2))
+    (λ e. absurd (p.0 e)) (λ n. and_from (starts_ordered (t ∷ ts)) (ordered ts) (after_starts t ts p.1) (poly_then ts p.2))
 
 pub nat_less : (a b : ℕ) → a < b → nat_cmp a b ≡ Less
 nat_less a b h = rw (lt-ltb a b h) refl
@@ -116,12 +129,12 @@ nat_up a b = by_cases (nat_cmp a b)
     (λ h. let r : b < a = ranked a b Greater (sym h) in h ∙ sym (nat_more (suc a) (suc b) (omega arith)))
 
 -- lists of which one is used up compare as their lengths do
-pub ended_cmp : (xs ys : List (ℕ × ℕ)) (n : ℕ) → n ≡ min (length xs) (length ys) → slice_cmp factor_cmp (drop n xs) (drop n ys) ≡ nat_cmp (length xs) (length ys)
-ended_cmp [] [] n h = let e : n ≡ 0 = omega arith in rw e refl
-ended_cmp [] (y ∷ ys) n h = let e : n ≡ 0 = omega arith in rw e (sym (nat_less 0 (suc (length ys)) (omega arith)))
-ended_cmp (x ∷ xs) [] n h = let e : n ≡ 0 = omega arith in rw e (sym (nat_more (suc (length xs)) 0 (omega arith)))
-ended_cmp (x ∷ xs) (y ∷ ys) zero h = absurd (omega arith)
-ended_cmp (x ∷ xs) (y ∷ ys) (suc n) h = ended_cmp xs ys n (omega arith) ∙ nat_up (length xs) (length ys)
+pub ended_cmp : {A : Type 0} (cmp : A → A → Ordering) (xs ys : List A) (n : ℕ) → n ≡ min (length xs) (length ys) → slice_cmp cmp (drop n xs) (drop n ys) ≡ nat_cmp (length xs) (length ys)
+ended_cmp cmp [] [] n h = let e : n ≡ 0 = omega arith in rw e refl
+ended_cmp cmp [] (y ∷ ys) n h = let e : n ≡ 0 = omega arith in rw e (sym (nat_less 0 (suc (length ys)) (omega arith)))
+ended_cmp cmp (x ∷ xs) [] n h = let e : n ≡ 0 = omega arith in rw e (sym (nat_more (suc (length xs)) 0 (omega arith)))
+ended_cmp cmp (x ∷ xs) (y ∷ ys) zero h = absurd (omega arith)
+ended_cmp cmp (x ∷ xs) (y ∷ ys) (suc n) h = ended_cmp cmp xs ys n (omega arith) ∙ nat_up (length xs) (length ys)
 
 -- a step of the test of terms
 pub ordered_step : (ts : List Term) (n : ℕ) (t : Term) → n < length ts → t ≡ get_or ts n t → t.coeff ≢ pos 0 → starts_ordered (drop n ts) ≡ true
@@ -133,21 +146,37 @@ ordered_step ts n t h is z s =
     (λ e. absurd (z e)) (λ m. ap (λ b. b && ordered (drop (n + 1) ts)) (sym s2))
     ∙ ap (λ (xs : List Term). ordered xs) (sym f)
 
-pub degree_step : (ts : List Term) (n : ℕ) (t : Term) → t ≡ get_or ts n t → mono_degree t.mono ≤ 255 → degree (take n ts) ≤ 255 → degree (take (n + 1) ts) ≤ 255
-degree_step [] n t is d h = let e : take {A = Term} (n + 1) [] ≡ [] = grind (arith, common_steps) in rw e (omega arith)
-degree_step (x ∷ xs) zero t is d h = let e : mono_degree t.mono ≡ mono_degree x.mono = ap (λ (u : Term). mono_degree u.mono) is in omega arith
-degree_step (x ∷ xs) (suc n) t is d h =
-    let e : suc n + 1 ≡ suc (n + 1) = omega arith in
-    let k : degree (take (n + 1) xs) ≤ 255 = degree_step xs n t is d (omega arith) in
-    let x : mono_degree x.mono ≤ 255 = omega arith in
-    rw e (omega arith)
+pub fits_if : (ts : List Term) → length ts ≤ 65536 → ordered ts ≡ true → EachMono IsMonomial ts → norm ts < 2 ^ 126 → Fits ts
+fits_if ts s o m n = record { order = poly_if ts o; monos = all_mono ts m; room = all_room ts m; norm = n; spread = s; degree = all_low ts m }
 
-pub fits_if : (ts : List Term) → length ts ≤ 65536 → ordered ts ≡ true → degree ts ≤ 255 → norm ts < 2 ^ 126 → Fits ts
-fits_if ts s o d n = record { order = poly_if ts o; norm = n; spread = s; degree = d }
+each_given : (ts : List Term) → list_all (λ (t : Term). is_monomial t.mono) ts ≡ true → EachMono IsMonomial ts
+each_given [] h = tt
+each_given (t ∷ ts) h =
+    let p = and_parts (is_monomial t.mono) (list_all (λ (t : Term). is_monomial t.mono) ts) h in
+    (monomial_given t.mono p.0, each_given ts p.1)
+
+each_from : (ts : List Term) → EachMono IsMonomial ts → list_all (λ (t : Term). is_monomial t.mono) ts ≡ true
+each_from [] a = refl
+each_from (t ∷ ts) a = and_from (is_monomial t.mono) (list_all (λ (t : Term). is_monomial t.mono) ts) (monomial_from t.mono a.0) (each_from ts a.1)
+
+-- terms that pass the test are a polynomial, and no others are
+pub fits_given : (ts : List Term) → is_polynomial ts ≡ true → Fits ts
+unfolding is_polynomial
+fits_given ts h =
+    let each : Bool = list_all (λ (t : Term). is_monomial t.mono) ts in
+    let p = and_parts (ordered ts && each) (nat_lt (norm ts) (2 ^ 126) && nat_le (spread ts) 65536) h in
+    let q = and_parts (ordered ts) each p.0 in
+    let r = and_parts (nat_lt (norm ts) (2 ^ 126)) (nat_le (spread ts) 65536) p.1 in
+    fits_if ts (leb-true (spread ts) 65536 r.1) q.0 (each_given ts q.1) (ltb-true (norm ts) (2 ^ 126) r.0)
+
+pub fits_from : (ts : List Term) → Fits ts → is_polynomial ts ≡ true
+unfolding is_polynomial
+fits_from ts f =
+    let each : Bool = list_all (λ (t : Term). is_monomial t.mono) ts in
+    and_from (ordered ts && each) (nat_lt (norm ts) (2 ^ 126) && nat_le (spread ts) 65536)
+    (and_from (ordered ts) each (poly_then ts f.order) (each_from ts (all_monomials ts f.monos f.room f.degree)))
+    (and_from (nat_lt (norm ts) (2 ^ 126)) (nat_le (spread ts) 65536) (lt-ltb (norm ts) (2 ^ 126) f.norm) (le-leb (spread ts) 65536 f.spread))
 
 -- a number whose bits aren't 0
 pub bits_nonzero : (a : ℤ) → (of_z w128 a ≡ 0 → ⊥) → a ≢ pos 0
 bits_nonzero a h e = h (ap (of_z w128) e)
-
-pub never : false ≡ true → ⊥
-never e = cc

@@ -4,9 +4,10 @@ use Rattle.std.proofs.Common.{ap, sym, ◌∙◌, arith, zero-add}
 use Rattle.std.proofs.lemmas.Int.{ints}
 use Rattle.std.proofs.Math.IntN.{*ℤ_comm}
 use Rattle.std.specs.FinMap.{nat_cmp-IsAntisymmetric}
+use Rattle.mm_num.specs.Power.{power}
 use Rattle.mm_num.proofs.Ring.{dist, dist_r, assoc, swap}
 use Rattle.mm_poly.specs.declared.term.Term.{Term}
-use Rattle.mm_poly.specs.Mono.{power, mono_value, mono_times, times_factor}
+use Rattle.mm_poly.specs.Mono.{mono_value, mono_times, times_factor}
 use Rattle.mm_poly.specs.Poly.{value, term_value, with_coeff, add_term, plus, scaled, times_term, times, constant_of, variable_of}
 use Rattle.mm_poly.proofs.OrderLaws.{mono_exact}
 use Rattle.mm_poly.proofs.CaseLaws.{by_coeff, by_order, by_factor}
@@ -34,14 +35,14 @@ sum_assoc a b c = omega (arith, ints)
 pub sum_swap : (a b c : ℤ) → a +ℤ (b +ℤ c) ≡ b +ℤ (a +ℤ c)
 sum_swap a b c = omega (arith, ints)
 
-without_term : (c m v : ℤ) → c ≡ pos 0 → v ≡ c *ℤ m +ℤ v
+pub without_term : (c m v : ℤ) → c ≡ pos 0 → v ≡ c *ℤ m +ℤ v
 without_term c m v e = rw (e, zero_mul m) (sym (zero_sum v))
 
 pub value_with : (x : ℕ → ℤ) (c : ℤ) (m : List (ℕ × ℕ)) (ts : List Term) → value x (with_coeff c m ts) ≡ c *ℤ mono_value x m +ℤ value x ts
 value_with x c m ts = by_coeff c m ts (λ r. value x r ≡ c *ℤ mono_value x m +ℤ value x ts)
     (λ e. without_term c (mono_value x m) (value x ts) e) (λ n. refl)
 
-joined_term : (a b m v : ℤ) → (a +ℤ b) *ℤ m +ℤ v ≡ a *ℤ m +ℤ (b *ℤ m +ℤ v)
+pub joined_term : (a b m v : ℤ) → (a +ℤ b) *ℤ m +ℤ v ≡ a *ℤ m +ℤ (b *ℤ m +ℤ v)
 joined_term a b m v = ap (λ z. z +ℤ v) (dist_r a b m) ∙ sym (sum_assoc (a *ℤ m) (b *ℤ m) v)
 
 pub value_add_term : (x : ℕ → ℤ) (t : Term) (us : List Term) → value x (add_term t us) ≡ term_value x t +ℤ value x us
@@ -59,7 +60,7 @@ value_plus x [] q = sym (zero_sum (value x q))
 value_plus x (t ∷ p) q =
     value_add_term x t (plus p q) ∙ ap (λ v. term_value x t +ℤ v) (value_plus x p q) ∙ sum_assoc (term_value x t) (value x p) (value x q)
 
-multiple_of_term : (c a m v : ℤ) → (c *ℤ a) *ℤ m +ℤ c *ℤ v ≡ c *ℤ (a *ℤ m +ℤ v)
+pub multiple_of_term : (c a m v : ℤ) → (c *ℤ a) *ℤ m +ℤ c *ℤ v ≡ c *ℤ (a *ℤ m +ℤ v)
 multiple_of_term c a m v = ap (λ z. z +ℤ c *ℤ v) (assoc c a m) ∙ sym (dist c (a *ℤ m) v)
 
 -- the multiple's value
@@ -88,7 +89,7 @@ power_sum z (suc m) n =
     let e : suc m + n ≡ suc (m + n) = omega arith in
     rw e (ap (λ p. z *ℤ p) (power_sum z m n) ∙ sym (assoc z (power z m) (power z n)))
 
-value_times_factor : (x : ℕ → ℤ) (f : ℕ × ℕ) (gs : List (ℕ × ℕ)) → mono_value x (times_factor f gs) ≡ power (x f.0) f.1 *ℤ mono_value x gs
+pub value_times_factor : (x : ℕ → ℤ) (f : ℕ × ℕ) (gs : List (ℕ × ℕ)) → mono_value x (times_factor f gs) ≡ power (x f.0) f.1 *ℤ mono_value x gs
 value_times_factor x f [] = refl
 value_times_factor x f (g ∷ gs) = by_factor f g gs (λ r. mono_value x r ≡ power (x f.0) f.1 *ℤ (power (x g.0) g.1 *ℤ mono_value x gs))
     (λ e. refl)

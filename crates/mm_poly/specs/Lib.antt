@@ -1,5 +1,7 @@
 pub mod Mono
 pub mod Poly
+pub mod Room
+pub mod Renaming
 pub mod Product
 pub mod Point
 pub mod Tests

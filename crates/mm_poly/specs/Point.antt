@@ -1,5 +1,5 @@
 -- Points written as lists of numbers, and a bound on values there.
-use Rattle.std.specs.Prelude.{ℕ, ◌*◌, ◌^◌, ◌<◌, max, ℤ, pos, unsigned_abs, List, [], ◌∷◌, slice_index_or}
+use Rattle.std.specs.Prelude.{ℕ, ◌*◌, ◌^◌, max, ℤ, pos, unsigned_abs, List, [], ◌∷◌, slice_index_or}
 use Rattle.mm_poly.specs.declared.term.Term.{Term}
 use Rattle.mm_poly.specs.Poly.{norm, degree}
 
@@ -15,13 +15,3 @@ greatest_magnitude (z ∷ zs) = max (unsigned_abs z) (greatest_magnitude zs)
 -- a bound on a value's magnitude: what the norm is multiplied by is at least 1
 abbrev pub value_bound : List Term → List ℤ → ℕ
 value_bound p point = norm p * max 1 (greatest_magnitude point) ^ degree p
-
--- every variable is below this one
-abbrev pub VarsBelow : ℕ → List (ℕ × ℕ) → Type 0
-VarsBelow n [] = Unit {0}
-VarsBelow n (f ∷ fs) = (f.0 < n) × VarsBelow n fs
-
--- every variable has one of this many places
-abbrev pub HasPlaces : ℕ → List Term → Type 0
-HasPlaces n [] = Unit {0}
-HasPlaces n (t ∷ ts) = VarsBelow n t.mono × HasPlaces n ts

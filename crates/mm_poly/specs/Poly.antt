@@ -1,13 +1,16 @@
 -- Polynomials: a finite map from monomials to integers other than 0, written as the list of its terms in
 -- monomial order.
-use Rattle.std.specs.Prelude.{◌≡◌, ◌≢◌, ℕ, ◌+◌, ◌^◌, ◌<◌, ◌≤◌, max, ℤ, pos, ◌+ℤ◌, ◌*ℤ◌, unsigned_abs, List, [], ◌∷◌, length, cond}
+use Rattle.std.specs.Prelude.{◌≡◌, ◌≢◌, ℕ, ◌+◌, ◌^◌, ◌<◌, ◌≤◌, max, ℤ, pos, ◌+ℤ◌, ◌*ℤ◌, unsigned_abs, neg_ℤ, List, [], ◌∷◌, length, Bool, true, false, not, ◌&&◌, cond}
 use Rattle.std.specs.declared.cmp.Ordering.TheVariants.{Less, Equal, Greater}
-use Rattle.std.specs.Ordering.{int_eq, is_eq}
+use Rattle.std.specs.declared.cmp.Ordering.{Ordering}
+use Rattle.std.specs.Ordering.{int_eq, is_eq, int_cmp, ordering_then}
+use Rattle.std.specs.Cmp.Lexicographic.{slice_cmp}
 use Rattle.std.specs.Int.{◌∣◌}
+use Rattle.std.specs.List.{AllByRecursion, filter}
 use Rattle.mm_num.specs.Quotient.{floor_by}
 use Rattle.mm_num.specs.Divisor.{gcd_of}
 use Rattle.mm_poly.specs.declared.term.Term.{Term}
-use Rattle.mm_poly.specs.Mono.{mono_value, mono_degree, mono_cmp, mono_times, is_constant, IsMono}
+use Rattle.mm_poly.specs.Mono.{mono_value, mono_degree, mono_cmp, mono_times, is_constant, IsMono, VarsBelow}
 
 abbrev pub term_value : (ℕ → ℤ) → Term → ℤ
 term_value x t = t.coeff *ℤ mono_value x t.mono
@@ -16,6 +19,15 @@ term_value x t = t.coeff *ℤ mono_value x t.mono
 abbrev pub value : (ℕ → ℤ) → List Term → ℤ
 value x [] = pos 0
 value x (t ∷ ts) = term_value x t +ℤ value x ts
+
+-- the value where each monomial counts for itself, with a weight
+abbrev pub linear_value : (List (ℕ × ℕ) → ℤ) → List Term → ℤ
+linear_value w [] = pos 0
+linear_value w (t ∷ ts) = t.coeff *ℤ w t.mono +ℤ linear_value w ts
+
+-- the same weights but for one monomial
+abbrev pub with_weight : (List (ℕ × ℕ) → ℤ) → List (ℕ × ℕ) → ℤ → List (ℕ × ℕ) → ℤ
+with_weight w u z m = cond (is_eq (mono_cmp m u)) z (w m)
 
 -- the sum of the coefficients' magnitudes
 abbrev pub norm : List Term → ℕ
@@ -46,9 +58,23 @@ abbrev pub IsPoly : List Term → Type 0
 IsPoly [] = Unit {0}
 IsPoly (t ∷ ts) = (t.coeff ≢ pos 0) × AllAfter t.mono ts × IsPoly ts
 
--- a polynomial within the bounds of norm, spread and degree
+-- every term's monomial is one of these
+abbrev pub EachMono : (List (ℕ × ℕ) → Type 0) → List Term → Type 0
+EachMono P ts = AllByRecursion (λ (t : Term). P t.mono) ts
+
+-- every monomial is one
+abbrev pub AllMono : List Term → Type 0
+AllMono = EachMono IsMono
+
+-- every variable has one of this many places
+abbrev pub HasPlaces : ℕ → List Term → Type 0
+HasPlaces n = EachMono (VarsBelow n)
+
+-- a polynomial with variables below 2^32, within the bounds of norm, spread and degree
 pub record Fits (terms : List Term) : Type 0 where
   pub order : IsPoly terms
+  pub monos : AllMono terms
+  pub room : HasPlaces (2 ^ 32) terms
   pub norm : norm terms < 2 ^ 126
   pub spread : spread terms ≤ 65536
   pub degree : degree terms ≤ 255
@@ -119,12 +145,29 @@ pub record IsContent (terms : List Term) (g : ℕ) : Type 0 where
   pub divides : DividesAll g (without_constant terms)
   pub greatest : (d : ℕ) → DividesAll d (without_constant terms) → d ∣ g
 
--- every monomial is one
-abbrev pub AllMono : List Term → Type 0
-AllMono [] = Unit {0}
-AllMono (t ∷ ts) = IsMono t.mono × AllMono ts
-
 -- each coefficient divided by g, from 1, and rounded down; terms that get 0 are left out
 abbrev pub floor_divided : ℕ → List Term → List Term
 floor_divided g [] = []
 floor_divided g (t ∷ ts) = with_coeff (floor_by t.coeff g) t.mono (floor_divided g ts)
+
+-- terms in any order summed, each monomial once; a term with the coefficient 0 counts for nothing
+abbrev pub nonzero_terms : List Term → List Term
+nonzero_terms ts = filter (λ t. not (int_eq t.coeff (pos 0))) ts
+
+abbrev pub joined : List Term → List Term
+joined ts = plus (nonzero_terms ts) []
+
+-- whether the second polynomial is the first times -1
+abbrev pub is_opposite : List Term → List Term → Bool
+is_opposite [] [] = true
+is_opposite (t ∷ ts) (u ∷ us) = is_eq (mono_cmp t.mono u.mono) && (int_eq u.coeff (neg_ℤ t.coeff) && is_opposite ts us)
+is_opposite [] (u ∷ us) = false
+is_opposite (t ∷ ts) [] = false
+
+-- by the monomial, and then by the coefficient
+abbrev pub term_cmp : Term → Term → Ordering
+term_cmp t u = ordering_then (mono_cmp t.mono u.mono) (int_cmp t.coeff u.coeff)
+
+-- term by term: the first that differ decide, and else the polynomial with fewer terms comes first
+abbrev pub poly_cmp : List Term → List Term → Ordering
+poly_cmp p q = slice_cmp term_cmp p q

@@ -7,7 +7,9 @@
 #![tactic(auto)]
 
 mod fail;
+mod laws;
 mod mono;
+mod parts;
 mod point;
 mod poly;
 mod product;
@@ -15,7 +17,8 @@ mod sum;
 mod term;
 
 pub use fail::PolyFail;
-pub use mono::Mono;
+pub use laws::{coefficients, exponents, linear_values, monomial_order, renaming, values};
+pub use mono::{Factors, Mono};
 pub use poly::Poly;
 pub use term::Term;
 

@@ -1,7 +1,8 @@
 ghost use Rattle.std.specs.Prelude.{◌≡◌, ◌*◌, ◌^◌, ◌<◌, ◌≤◌, max, ◌*ℤ◌, unsigned_abs, length, IsTrue, ◌↔◌};
-ghost use Rattle.mm_poly.specs.Mono.{power, mono_degree};
-ghost use Rattle.mm_poly.specs.Poly.{value, term_value};
-ghost use Rattle.mm_poly.specs.Point.{HasPlaces, VarsBelow, greatest_magnitude, value_bound, point_of};
+ghost use Rattle.mm_poly.specs.Mono.{mono_degree, VarsBelow};
+ghost use Rattle.mm_num.specs.Power.{power};
+ghost use Rattle.mm_poly.specs.Poly.{value, term_value, HasPlaces};
+ghost use Rattle.mm_poly.specs.Point.{greatest_magnitude, value_bound, point_of};
 
 use crate::term::Term;
 

@@ -1,15 +1,22 @@
-ghost use Rattle.std.specs.Prelude.{◌≡◌, ℕ, ◌+◌, ◌*◌, ◌^◌, ◌<◌, ◌≤◌, ℤ, pos, unsigned_abs, length, drop, slice_get, Some, IfOk, IfSome, IsSome, IsNone, IsErrOf, IsOk, ◌↔◌, ◌⊎◌, IsTrue};
+ghost use Rattle.std.specs.Prelude.{◌≡◌, ℕ, ◌+◌, ◌*◌, ◌^◌, ◌<◌, ◌≤◌, ℤ, pos, ◌≤ℤ◌, unsigned_abs, List, [], not, length, drop, slice_get, Some, IfOk, IfSome, IsSome, IsNone, IsErrOf, IsOk, ◌↔◌, ◌⊎◌, IsTrue};
 ghost use Rattle.std.specs.Bool.{OnTrue};
+ghost use Rattle.std.specs.Ordering.{int_eq};
 ghost use Rattle.mm_num.specs.Small.{IsSmall};
+ghost use Rattle.mm_poly.specs.Mono.{IsMonomial};
 ghost use Rattle.mm_poly.specs.Tests.{ordered, starts_ordered};
-ghost use Rattle.mm_poly.specs.Poly.{Fits, plus, scaled, times, constant_of, variable_of, norm, spread, degree, value, content, IsContent};
-ghost use Rattle.mm_poly.specs.Point.{HasPlaces, value_bound, point_of};
+ghost use Rattle.mm_poly.specs.Poly.{Fits, plus, scaled, times, constant_of, variable_of, norm, spread, degree, value, content, IsContent, EachMono, HasPlaces, coeff_of, constant_part, without_constant, floor_divided, is_opposite, poly_cmp, nonzero_terms, joined};
+ghost use Rattle.mm_poly.specs.Renaming.{by_table, renamed};
+ghost use Rattle.mm_poly.specs.Room.{SumHasRoom, ProductHasRoom};
+ghost use Rattle.mm_poly.specs.Point.{value_bound, point_of};
 
 use crate::fail::PolyFail;
 use crate::mono::Mono;
+use crate::parts::{
+    are_opposite, coefficient, constant, order, quotients, renamed_terms, unknowns,
+};
 use crate::point::{greatest_magnitude, have_places, is_small_multiple, value_of};
-use crate::product::product;
-use crate::sum::{copies, merge, multiples};
+use crate::product::{join, product};
+use crate::sum::{combine, copies, merge, multiples};
 use crate::term::Term;
 use mm_num::gcd;
 use std::alloc::{AllocError, Global};
@@ -50,13 +57,16 @@ impl Poly {
         requires { IsSmall c }
         ensures { IfOk result (λ p. p ≡ constant_of c) }
     {
-        let mut terms = Vec::new(alloc);
-        if c != 0 {
-            terms.push(Term {
-                coeff: c,
-                mono: Mono::one(alloc),
-            })?;
+        if c == 0 {
+            return Ok(Poly {
+                terms: Vec::new(alloc),
+            });
         }
+        let mut terms = Vec::with_capacity(alloc, 1)?;
+        terms.push(Term {
+            coeff: c,
+            mono: Mono::one(alloc),
+        })?;
         Ok(Poly { terms })
     }
 
@@ -64,7 +74,7 @@ impl Poly {
     pub fn var(alloc: Global, v: u32) -> Result<Poly, AllocError>
         ensures { IfOk result (λ p. p ≡ variable_of v) }
     {
-        let mut terms = Vec::new(alloc);
+        let mut terms = Vec::with_capacity(alloc, 1)?;
         terms.push(Term {
             coeff: 1,
             mono: Mono::var(alloc, v)?,
@@ -74,15 +84,15 @@ impl Poly {
 
     /// The polynomial with these terms: none where they don't stand in monomial order, a coefficient is 0, or
     /// norm or spread pass their bounds.
-    pub fn from_terms(terms: Vec<Term>) -> Option<Poly>
+    pub fn from_terms(mut terms: Vec<Term>) -> Option<Poly>
         ensures some { IsSome result ↔ Fits terms.items }
         ensures value { IfSome result (λ p. p ≡ terms.items) }
     {
-        if is_polynomial(&terms) {
-            Some(Poly { terms })
-        } else {
-            None
+        if !is_polynomial(&terms) {
+            return None;
         }
+        terms.shrink_to_fit();
+        Some(Poly { terms })
     }
 
     /// The sum: `Big` where the norms sum to 2^126 or more, or the spreads to more than 65,536.
@@ -97,6 +107,14 @@ impl Poly {
         if sum_of_magnitudes(&self.terms) + sum_of_magnitudes(&other.terms) >= NORM_LIMIT {
             return Err(PolyFail::Big);
         }
+        Ok(self.sum(alloc, other)?)
+    }
+
+    /// The sum, where the limits leave room for it.
+    pub fn sum(&self, alloc: Global, other: &Poly) -> Result<Poly, AllocError>
+        requires { SumHasRoom self.now other.now }
+        ensures { IfOk result (λ p. p ≡ plus self.now other.now) }
+    {
         let terms = merge(alloc, &self.terms, &other.terms)?;
         Ok(Poly { terms })
     }
@@ -111,6 +129,14 @@ impl Poly {
         if !is_small_product(sum_of_magnitudes(&self.terms), c.unsigned_abs()) {
             return Err(PolyFail::Big);
         }
+        Ok(self.multiple(alloc, c)?)
+    }
+
+    /// A multiple, where the limits leave room for it.
+    pub fn multiple(&self, alloc: Global, c: i128) -> Result<Poly, AllocError>
+        requires { norm self.now * unsigned_abs c < 2 ^ 126 }
+        ensures { IfOk result (λ p. p ≡ scaled c self.now) }
+    {
         let terms = multiples(alloc, &self.terms, c)?;
         Ok(Poly { terms })
     }
@@ -134,8 +160,164 @@ impl Poly {
         ) {
             return Err(PolyFail::Big);
         }
+        Ok(self.product(alloc, other)?)
+    }
+
+    /// The product, where the limits leave room for it.
+    pub fn product(&self, alloc: Global, other: &Poly) -> Result<Poly, AllocError>
+        requires { ProductHasRoom self.now other.now }
+        ensures { IfOk result (λ p. p ≡ times self.now other.now) }
+    {
         let terms = product(alloc, &self.terms, &other.terms)?;
         Ok(Poly { terms })
+    }
+
+    /// The combination of both, each times a number: `Big` where the norms times the magnitudes sum to 2^126 or more,
+    /// or the spreads to more than 65,536.
+    pub fn combination(
+        &self,
+        alloc: Global,
+        times: i128,
+        other: &Poly,
+        other_times: i128,
+    ) -> Result<Poly, PolyFail>
+        ensures sum { IfOk result (λ p. p ≡ plus (scaled times self.now) (scaled other_times other.now)) }
+        ensures big { IsErrOf result PolyFail.Big → (2 ^ 126 ≤ norm self.now * unsigned_abs times + norm other.now * unsigned_abs other_times) ⊎ (65536 < spread self.now + spread other.now) }
+        ensures fits { IsOk result → (norm self.now * unsigned_abs times + norm other.now * unsigned_abs other_times < 2 ^ 126) × (spread self.now + spread other.now ≤ 65536) }
+    {
+        if self.spread() + other.spread() > MOST_TERMS {
+            return Err(PolyFail::Big);
+        }
+        if !is_small_combination(
+            sum_of_magnitudes(&self.terms),
+            times.unsigned_abs(),
+            sum_of_magnitudes(&other.terms),
+            other_times.unsigned_abs(),
+        ) {
+            return Err(PolyFail::Big);
+        }
+        let terms = combine(alloc, &self.terms, times, &other.terms, other_times)?;
+        Ok(Poly { terms })
+    }
+
+    /// The polynomial that terms in any order sum to: `Big` where the coefficients' magnitudes sum to 2^126 or more,
+    /// or there are more than 65,536 terms.
+    pub fn joined(alloc: Global, terms: Vec<Term>) -> Result<Poly, PolyFail>
+        ensures sum { IfOk result (λ p. p ≡ joined terms.items) }
+        ensures big { IsErrOf result PolyFail.Big → (2 ^ 126 ≤ norm terms.items) ⊎ (65536 < spread terms.items) }
+        ensures fits { IsOk result → (norm terms.items < 2 ^ 126) × (spread terms.items ≤ 65536) }
+    {
+        if terms.len() > MOST_TERMS as usize || !is_small(&terms) {
+            return Err(PolyFail::Big);
+        }
+        have_monomials(&terms);
+        let terms = join(alloc, without_zeros(terms))?;
+        Ok(Poly { terms })
+    }
+
+    /// The terms, in monomial order.
+    pub fn terms(&self) -> &[Term]
+        ensures value { result.now ≡ self.now }
+        ensures fits { Fits self.now }
+    {
+        &self.terms
+    }
+
+    /// The terms, in monomial order, and nothing else.
+    pub fn into_terms(self) -> Vec<Term>
+        ensures { result.items ≡ self }
+    {
+        self.terms
+    }
+
+    /// The coefficient of a monomial, 0 where it doesn't occur.
+    pub fn coefficient(&self, mono: &Mono) -> i128
+        ensures value { result ≡ coeff_of self.now mono.now }
+        ensures within { unsigned_abs (coeff_of self.now mono.now) ≤ norm self.now }
+        ensures small { unsigned_abs (coeff_of self.now mono.now) < 2 ^ 126 }
+    {
+        coefficient(&self.terms, mono)
+    }
+
+    /// The coefficient of the constant monomial, 0 where there is none.
+    pub fn constant_term(&self) -> i128
+        ensures value { result ≡ constant_part self.now }
+        ensures within { unsigned_abs (constant_part self.now) ≤ norm self.now }
+        ensures small { unsigned_abs (constant_part self.now) < 2 ^ 126 }
+    {
+        constant(&self.terms)
+    }
+
+    /// The terms that aren't constant, in monomial order.
+    pub fn unknowns(&self) -> &[Term]
+        ensures { result.now ≡ without_constant self.now }
+    {
+        unknowns(&self.terms)
+    }
+
+    /// Whether it is a constant.
+    pub fn is_constant(&self) -> bool
+        ensures { IsTrue result ↔ (without_constant self.now ≡ []) }
+    {
+        unknowns(&self.terms).is_empty()
+    }
+
+    /// Whether both are the same but for their constants.
+    pub fn has_unknowns_of(&self, other: &Poly) -> bool
+        ensures { IsTrue result ↔ (without_constant self.now ≡ without_constant other.now) }
+    {
+        are_same(unknowns(&self.terms), unknowns(&other.terms))
+    }
+
+    /// Whether the other one is this one times -1.
+    pub fn is_opposite(&self, other: &Poly) -> bool
+        ensures { result ≡ is_opposite self.now other.now }
+    {
+        are_opposite(&self.terms, &other.terms)
+    }
+
+    /// Whether the other one is this one times -1 but for the constants.
+    pub fn has_opposite_unknowns(&self, other: &Poly) -> bool
+        ensures { result ≡ is_opposite (without_constant self.now) (without_constant other.now) }
+    {
+        are_opposite(unknowns(&self.terms), unknowns(&other.terms))
+    }
+
+    /// The polynomial without its constant.
+    pub fn without_constant(&self, alloc: Global) -> Result<Poly, AllocError>
+        ensures { IfOk result (λ p. p ≡ without_constant self.now) }
+    {
+        let terms = copies(alloc, unknowns(&self.terms))?;
+        Ok(Poly { terms })
+    }
+
+    /// Each coefficient divided by a number of at least 1, and rounded down.
+    pub fn floor_divided(&self, alloc: Global, divisor: i128) -> Result<Poly, AllocError>
+        requires small { IsSmall divisor }
+        requires positive { pos 1 ≤ℤ divisor }
+        ensures { IfOk result (λ p. p ≡ floor_divided (unsigned_abs divisor) self.now) }
+    {
+        let terms = quotients(alloc, &self.terms, divisor)?;
+        Ok(Poly { terms })
+    }
+
+    /// Each variable exchanged by the one at its place in a table, and equal monomials joined.
+    pub fn renamed(&self, alloc: Global, table: &[u32]) -> Result<Poly, AllocError>
+        requires { HasPlaces (length table.now) self.now }
+        ensures { IfOk result (λ p. p ≡ renamed (by_table table.now) self.now) }
+    {
+        let terms = renamed_terms(alloc, &self.terms, table)?;
+        have_monomials(&terms);
+        let terms = join(alloc, terms)?;
+        Ok(Poly { terms })
+    }
+
+    /// How it compares to another one, term by term, by the monomial and then by the coefficient; where one is the
+    /// beginning of the other, the shorter comes first.
+    pub fn order(&self, other: &Poly) -> Ordering
+        ensures { result ≡ poly_cmp self.now other.now }
+    {
+        order(&self.terms, &other.terms)
     }
 
     /// The term at a place from 0 on, in monomial order.
@@ -182,6 +364,7 @@ impl Poly {
         ensures small { content self.now < 2 ^ 126 }
         // It divides each of those coefficients, and each number that does so divides it.
         ensures divisor { IsContent self.now (content self.now) }
+        ensures fits { Fits self.now }
     {
         common_divisor(&self.terms)
     }
@@ -206,6 +389,15 @@ impl Poly {
         } else {
             None
         }
+    }
+
+    /// The value at a point that has a place for each variable, where the bound on it is below 2^126.
+    pub fn value_within(&self, point: &[i128]) -> i128
+        requires places { HasPlaces (length point.now) self.now }
+        requires small { value_bound self.now point.now < 2 ^ 126 }
+        ensures { result ≡ value (point_of point.now) self.now }
+    {
+        value_of(&self.terms, point)
     }
 
     /// Whether it is the same polynomial.
@@ -234,6 +426,42 @@ fn is_small_product(a: u128, b: u128) -> bool
     }
 }
 
+// Whether the products of numbers sum to less than the limit of norms.
+fn is_small_combination(a: u128, b: u128, c: u128, d: u128) -> bool
+    ensures { IsTrue result ↔ (a * b + c * d < 2 ^ 126) }
+{
+    match (a.checked_mul(b), c.checked_mul(d)) {
+        (Some(first), Some(second)) => match first.checked_add(second) {
+            Some(sum) => sum < NORM_LIMIT,
+            None => false,
+        },
+        _ => false,
+    }
+}
+
+// The terms whose coefficient isn't 0.
+fn without_zeros(mut terms: Vec<Term>) -> Vec<Term>
+    ensures { result.items ≡ nonzero_terms terms.items }
+{
+    terms.retain(|term| is_nonzero(term));
+    terms
+}
+
+fn is_nonzero(term: &Term) -> bool
+    ensures { result ≡ not (int_eq term.now.coeff (pos 0)) }
+{
+    term.coeff != 0
+}
+
+// Each monomial is one, since it is a `Mono`.
+fn have_monomials(terms: &[Term])
+    ensures { EachMono IsMonomial terms.now }
+{
+    for term in terms {
+        prove!(term.mono.degree() <= 255);
+    }
+}
+
 // Whether both have the same terms.
 fn are_same(left: &[Term], right: &[Term]) -> bool
     ensures { IsTrue result ↔ (left.now ≡ right.now) }
@@ -257,6 +485,9 @@ fn common_divisor(terms: &[Term]) -> i128
 {
     let mut divisor = 0;
     for n in (0..terms.len()).rev() {
+        if divisor == 1 {
+            return 1;
+        }
         let term = &terms[n];
         if !term.mono.is_empty() {
             divisor = gcd(term.coeff, divisor);
@@ -275,7 +506,7 @@ fn is_polynomial(terms: &[Term]) -> bool
 // Whether the terms stand in monomial order and no coefficient is 0.
 fn is_ordered(terms: &[Term]) -> bool
     ensures value { result ≡ ordered terms.now }
-    ensures degree { OnTrue result (degree terms.now ≤ 255) }
+    ensures monos { OnTrue result (EachMono IsMonomial terms.now) }
 {
     for (n, term) in terms.iter().enumerate() {
         prove!(term.mono.degree() <= 255);

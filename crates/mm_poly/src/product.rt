@@ -1,7 +1,7 @@
 ghost use Rattle.std.specs.Prelude.{◌≡◌, ◌≢◌, ◌+◌, ◌*◌, ◌^◌, ◌<◌, ◌≤◌, pos, [], ◌∷◌, ◌++◌, unsigned_abs, length, IfOk, OnOk};
 ghost use Rattle.std.specs.List.{All};
 ghost use Rattle.mm_poly.specs.Mono.{mono_degree};
-ghost use Rattle.mm_poly.specs.Poly.{IsPoly, norm, degree, with_coeff, plus, times};
+ghost use Rattle.mm_poly.specs.Poly.{IsPoly, AllMono, norm, degree, with_coeff, plus, times};
 ghost use Rattle.mm_poly.specs.Product.{AllNonZero, NotAfter, term_products, all_products};
 
 use crate::mono::Mono;
@@ -12,16 +12,22 @@ use std::alloc::{AllocError, Global};
 pub fn product(alloc: Global, left: &[Term], right: &[Term]) -> Result<Vec<Term>, AllocError>
     requires left { IsPoly left.now }
     requires right { IsPoly right.now }
+    requires left_monos { AllMono left.now }
+    requires right_monos { AllMono right.now }
     requires small { norm left.now * norm right.now < 2 ^ 126 }
     requires degree { degree left.now + degree right.now ≤ 255 }
     ensures { IfOk result (λ terms. terms.items ≡ times left.now right.now) }
 {
     let terms = products(alloc, left, right)?;
-    joined(alloc, terms)
+    if left.len() <= 1 || right.len() <= 1 {
+        // Multiplying by a monomial keeps the order.
+        return Ok(terms);
+    }
+    join(alloc, terms)
 }
 
-// Terms in any order, put in monomial order, with the sum for a monomial that several have.
-fn joined(alloc: Global, mut terms: Vec<Term>) -> Result<Vec<Term>, AllocError>
+/// Terms in any order, put in monomial order, with the sum for a monomial that several have.
+pub fn join(alloc: Global, mut terms: Vec<Term>) -> Result<Vec<Term>, AllocError>
     requires nonzero { AllNonZero terms.items }
     requires small { norm terms.items < 2 ^ 126 }
     ensures { IfOk result (λ out. out.items ≡ plus terms.items []) }

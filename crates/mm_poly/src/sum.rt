@@ -1,4 +1,5 @@
 ghost use Rattle.std.specs.Prelude.{◌≡◌, ◌+◌, ◌*◌, ◌^◌, ◌<◌, [], ◌∷◌, ◌++◌, ◌+ℤ◌, ◌*ℤ◌, unsigned_abs, IfOk, OnOk};
+ghost use Rattle.mm_num.specs.Small.{IsSmall};
 ghost use Rattle.mm_poly.specs.Poly.{IsPoly, norm, plus, scaled, with_coeff};
 
 use crate::mono::Mono;
@@ -37,7 +38,58 @@ pub fn merge(alloc: Global, left: &[Term], right: &[Term]) -> Result<Vec<Term>, 
     }
     push_copies(&mut out, &left[i..])?;
     push_copies(&mut out, &right[j..])?;
-    Ok(out)
+    Ok(trimmed(out))
+}
+
+/// The terms of one side times a number and those of the other side times another number, in monomial order, with
+/// the sum for a monomial that both have.
+pub fn combine(
+    alloc: Global,
+    left: &[Term],
+    a: i128,
+    right: &[Term],
+    b: i128,
+) -> Result<Vec<Term>, AllocError>
+    requires left { IsPoly left.now }
+    requires right { IsPoly right.now }
+    requires small { norm left.now * unsigned_abs a + norm right.now * unsigned_abs b < 2 ^ 126 }
+    ensures { IfOk result (λ terms. terms.items ≡ plus (scaled a left.now) (scaled b right.now)) }
+{
+    let mut out = Vec::with_capacity(alloc, left.len().saturating_add(right.len()))?;
+    let mut i = 0;
+    let mut j = 0;
+    while i < left.len() && j < right.len() {
+        let first = &left[i];
+        let second = &right[j];
+        match first.mono.order(&second.mono) {
+            Ordering::Less => {
+                push_multiple(&mut out, a, first)?;
+                i += 1;
+            }
+            Ordering::Equal => {
+                push_combined(&mut out, a, first, b, second)?;
+                i += 1;
+                j += 1;
+            }
+            Ordering::Greater => {
+                push_multiple(&mut out, b, second)?;
+                j += 1;
+            }
+        }
+    }
+    push_multiples(&mut out, &left[i..], a)?;
+    push_multiples(&mut out, &right[j..], b)?;
+    Ok(trimmed(out))
+}
+
+// The terms, with no more room than they need where they use at most half of it.
+fn trimmed(mut terms: Vec<Term>) -> Vec<Term>
+    ensures { result.items ≡ terms.items }
+{
+    if terms.len() <= terms.capacity() / 2 {
+        terms.shrink_to_fit();
+    }
+    terms
 }
 
 /// The terms times a number.
@@ -46,10 +98,18 @@ pub fn multiples(alloc: Global, terms: &[Term], c: i128) -> Result<Vec<Term>, Al
     ensures { IfOk result (λ out. out.items ≡ scaled c terms.now) }
 {
     let mut out = Vec::with_capacity(alloc, terms.len())?;
-    for term in terms {
-        push_multiple(&mut out, c, term)?;
-    }
+    push_multiples(&mut out, terms, c)?;
     Ok(out)
+}
+
+fn push_multiples(out: &mut Vec<Term>, terms: &[Term], c: i128) -> Result<(), AllocError>
+    requires { norm terms.now * unsigned_abs c < 2 ^ 126 }
+    ensures { OnOk result (out.new.items ≡ out.old.items ++ scaled c terms.now) }
+{
+    for term in terms {
+        push_multiple(out, c, term)?;
+    }
+    Ok(())
 }
 
 /// Equal terms.
@@ -89,7 +149,38 @@ fn push_multiple(out: &mut Vec<Term>, c: i128, term: &Term) -> Result<(), AllocE
     requires { unsigned_abs c * unsigned_abs term.now.coeff < 2 ^ 126 }
     ensures { OnOk result (out.new.items ≡ out.old.items ++ with_coeff (c *ℤ term.now.coeff) term.now.mono []) }
 {
-    push_term(out, c * term.coeff, &term.mono)
+    push_term(out, multiple(c, term.coeff), &term.mono)
+}
+
+// The combination of two terms with the same monomial.
+fn push_combined(
+    out: &mut Vec<Term>,
+    a: i128,
+    first: &Term,
+    b: i128,
+    second: &Term,
+) -> Result<(), AllocError>
+    requires first { unsigned_abs a * unsigned_abs first.now.coeff < 2 ^ 126 }
+    requires second { unsigned_abs b * unsigned_abs second.now.coeff < 2 ^ 126 }
+    ensures { OnOk result (out.new.items ≡ out.old.items ++ with_coeff (a *ℤ first.now.coeff +ℤ b *ℤ second.now.coeff) second.now.mono []) }
+{
+    push_term(out, combined(a, first.coeff, b, second.coeff), &second.mono)
+}
+
+fn combined(a: i128, first: i128, b: i128, second: i128) -> i128
+    requires first { unsigned_abs a * unsigned_abs first < 2 ^ 126 }
+    requires second { unsigned_abs b * unsigned_abs second < 2 ^ 126 }
+    ensures { result ≡ a *ℤ first +ℤ b *ℤ second }
+{
+    multiple(a, first) + multiple(b, second)
+}
+
+fn multiple(a: i128, b: i128) -> i128
+    requires { unsigned_abs a * unsigned_abs b < 2 ^ 126 }
+    ensures value { result ≡ a *ℤ b }
+    ensures small { IsSmall result }
+{
+    a * b
 }
 
 // No term where the coefficient is 0.

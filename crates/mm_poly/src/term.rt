@@ -1,9 +1,11 @@
 ghost use Rattle.std.specs.Prelude.{◌≡◌, ◌+◌, ◌*◌, ◌^◌, ◌<◌, ◌≤◌, unsigned_abs, IfOk, IsTrue, ◌↔◌};
 ghost use Rattle.mm_poly.specs.Mono.{mono_degree};
+ghost use Rattle.mm_poly.specs.Poly.{term_cmp};
 ghost use Rattle.mm_poly.specs.Product.{term_times};
 
 use crate::mono::Mono;
 use std::alloc::{AllocError, Global};
+use std::cmp::Ordering;
 
 /// A monomial with its coefficient.
 #[derive(Debug, Drop)]
@@ -32,6 +34,14 @@ impl Term {
         ensures { IsTrue result ↔ (self.now ≡ other.now) }
     {
         self.coeff == other.coeff && self.mono.same(&other.mono)
+    }
+
+    /// How it compares to another one: by the monomial, and then by the coefficient.
+    pub fn order(&self, other: &Term) -> Ordering
+        ensures { result ≡ term_cmp self.now other.now }
+    {
+        let by_monomial = self.mono.order(&other.mono);
+        by_monomial.then(self.coeff.cmp(&other.coeff))
     }
 
     /// An equal term.

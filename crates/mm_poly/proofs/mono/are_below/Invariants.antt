@@ -1,5 +1,5 @@
 use Rattle.std.specs.Prelude.{◌↔◌, drop}
-use Rattle.mm_poly.specs.Point.{VarsBelow}
+use Rattle.mm_poly.specs.Mono.{VarsBelow}
 use Rattle.mm_poly.proofs.mono.are_below.Given as goal
 
 -- what is left decides

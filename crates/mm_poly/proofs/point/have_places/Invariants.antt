@@ -1,5 +1,5 @@
 use Rattle.std.specs.Prelude.{◌↔◌, drop}
-use Rattle.mm_poly.specs.Point.{HasPlaces}
+use Rattle.mm_poly.specs.Poly.{HasPlaces}
 use Rattle.mm_poly.proofs.point.have_places.Given as goal
 
 -- what is left decides

@@ -1,7 +1,7 @@
 use Rattle.std.proofs.Common.{◌*ℤ◌, to_z, of_z, ap, ◌∙◌, arith}
 use Rattle.std.proofs.lemmas.Int.{to_z-of_z}
 use Rattle.std.specs.Int.{w128}
-use Rattle.mm_poly.specs.Mono.{power}
+use Rattle.mm_num.specs.Power.{power}
 use Rattle.mm_poly.proofs.PointSteps.{raise_fits, raise, all_raised}
 use Rattle.mm_poly.proofs.point.times_power.Goals as goal
 

@@ -1,7 +1,7 @@
 use Rattle.std.proofs.Common.{◌≡◌, ◌*ℤ◌, pos, slice_index_or, to_z, of_z, ◌∙◌, ap, arith}
 use Rattle.std.proofs.lemmas.Int.{ints}
 use Rattle.std.specs.Int.{w128}
-use Rattle.mm_poly.specs.Mono.{power}
+use Rattle.mm_num.specs.Power.{power}
 use Rattle.mm_poly.proofs.PointSteps.{evaluate_place, evaluate_small, evaluate}
 use Rattle.mm_poly.proofs.point.value_of_term.Goals as goal
 

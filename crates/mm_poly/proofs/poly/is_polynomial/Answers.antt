@@ -1,7 +1,9 @@
-use Rattle.std.proofs.Common.{sym, ◌∙◌, subst, leb-true, arith, ◌≤◌}
+use Rattle.std.proofs.Common.{sym, ◌∙◌, subst, leb-true, arith}
 use Rattle.std.specs.Bool.{OnTrue}
-use Rattle.mm_poly.specs.Poly.{degree}
-use Rattle.mm_poly.proofs.TestLaws.{fits_if, poly_then, never}
+use Rattle.mm_poly.specs.Mono.{IsMonomial}
+use Rattle.mm_poly.specs.Poly.{EachMono}
+use Rattle.mm_num.proofs.BoolLaws.{never}
+use Rattle.mm_poly.proofs.TestLaws.{fits_if, poly_then}
 use Rattle.mm_poly.proofs.poly.is_polynomial.Goals as goal
 use Rattle.mm_poly.proofs.poly.is_polynomial.Goals.{then-terms, else-terms}
 
@@ -9,8 +11,8 @@ pub returns-then-is_ordered : goal.returns-then-is_ordered
 returns-then-is_ordered c = elim c.if-terms.branch [
   | then-terms w ↦
       let yes = sym w.value-is ∙ c.if-is_ordered.true in
-      let low = subst (λ b. OnTrue b (degree c.args.terms.now ≤ 255)) yes w.is_ordered.ensures.degree in
-      (λ s. fits_if c.args.terms.now (omega arith) (sym w.is_ordered.ensures.value ∙ yes) low (c.is_small.ensures.0 s), λ f. c.is_small.ensures.1 f.norm)
+      let each = subst (λ b. OnTrue b (EachMono IsMonomial c.args.terms.now)) yes w.is_ordered.ensures.monos in
+      (λ s. fits_if c.args.terms.now (omega arith) (sym w.is_ordered.ensures.value ∙ yes) each (c.is_small.ensures.0 s), λ f. c.is_small.ensures.1 f.norm)
   | else-terms w ↦ absurd (let few = leb-true _ _ (sym w.value-is ∙ c.if-is_ordered.true) in omega arith)
 ]
 

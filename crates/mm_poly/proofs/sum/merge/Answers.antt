@@ -1,4 +1,4 @@
-use Rattle.std.proofs.Common.{length, ◌≤◌, ◌⊎◌, inl, inr, arith}
+use Rattle.std.proofs.Common.{length, ◌≤◌, ◌⊎◌, inl, inr, ◌∙◌, arith}
 use Rattle.mm_poly.proofs.MergeSteps.{less, equal, greater, finished}
 use Rattle.mm_poly.proofs.sum.merge.Goals as goal
 use Rattle.mm_poly.proofs.sum.merge.Goals.{then-loop-i-test+else-j-right, else-loop-i-test}
@@ -16,4 +16,4 @@ pub returns : goal.returns
 returns c =
     let used : (length c.args.left.now ≤ c.loop-i.i) ⊎ (length c.args.right.now ≤ c.loop-i.j) =
     elim c.loop-i-test.branch [ then-loop-i-test+else-j-right w ↦ inr (omega arith) | else-loop-i-test w ↦ inl (omega arith) ] in
-    finished _ _ _ _ _ c.loop-i.invariant used _ _ c.in_ok-push_copies.ensures c.in_ok-push_copies-2.ensures
+    c.trimmed.ensures ∙ finished _ _ _ _ _ c.loop-i.invariant used _ _ c.in_ok-push_copies.ensures c.in_ok-push_copies-2.ensures

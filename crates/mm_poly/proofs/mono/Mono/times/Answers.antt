@@ -8,4 +8,4 @@ pub invariant_of-result : goal.invariant_of-result
 invariant_of-result c =
     let e : c.in_ok-factors.factors.items ≡ mono_times c.self.inside.factors.items c.other.inside.factors.items = cc (c.in_ok-factors.ensures, c.as_slice.ensures, c.as_slice-2.ensures) in
     let s : mono_degree c.self.inside.factors.items + mono_degree c.other.inside.factors.items ≤ 255 = grind (arith, common_steps) in
-    subst (λ fs. IsMonomial fs) (sym e) (monomial_times c.self.inside.factors.items c.other.inside.factors.items c.self.invariant.order c.other.invariant.order s)
+    subst (λ fs. IsMonomial fs) (sym e) (monomial_times c.self.inside.factors.items c.other.inside.factors.items c.self.invariant c.other.invariant s)

@@ -1,5 +1,0 @@
-use Rattle.mm_poly.proofs.ScaleSteps.{Scaling}
-use Rattle.mm_poly.proofs.sum.multiples.Given as goal
-
-abbrev pub invariant-loop-term : goal.invariant-loop-term
-invariant-loop-term l = Scaling l.out.items l.terms l.fn.c l.term-index
