@@ -14,7 +14,7 @@ use Rattle.cert_kit.specs.Cut.{cut_by, cut_of}
 test_is : (n : ℕ) → n ≡ 0 → (n == 0) ≡ true
 test_is n h = grind arith
 
-above_0 : (n : ℕ) → (n == 0) ≡ false → 0 < n
+pub above_0 : (n : ℕ) → (n == 0) ≡ false → 0 < n
 above_0 zero h = absurd (cc)
 above_0 (suc n) h = omega arith
 

@@ -3,6 +3,9 @@ use Rattle.std.specs.Prelude.{◌≡◌, ℤ, pos, ◌+ℤ◌, List, [], ◌∷�
 use Rattle.std.proofs.Common.{ap, sym, ◌∙◌, subst}
 use Rattle.std.proofs.lemmas.List.{length-map}
 use Rattle.std.specs.Option.{option_map_or}
+use Rattle.mm_num.specs.Result.{◌>>=◌ as ◌>>>◌}
+use Rattle.mm_num.specs.Option.{◌>>=◌}
+use Rattle.mm_num.proofs.BoolLaws.{never}
 use Rattle.mm_poly.specs.declared.term.Term.{Term}
 use Rattle.cert_kit.specs.declared.node.Fault.{Fault}
 use Rattle.cert_kit.specs.declared.node.Fault.TheVariants.{Rule, Bound}
@@ -16,29 +19,25 @@ use Rattle.cert_kit.specs.declared.cert.Close.TheOpen.{Close-F, Cert-F}
 use Rattle.cert_kit.specs.declared.cert.Close.TheViews.{roll-Close, roll-Cert}
 use Rattle.cert_kit.specs.declared.cert.Close.TheFolds.{map-Close, map-Cert, fold-Close, fold-roll-Cert, fold-roll-Close, ind-Cert}
 use Rattle.cert_kit.specs.Cut.{cut_of}
-use Rattle.cert_kit.specs.Meaning.{◌>>=◌, Measure, meaning, measure, own_bounds, are_within, at_least_0}
+use Rattle.cert_kit.specs.Meaning.{Measure, meaning, measure, own_bounds, are_within, at_least_0}
 use Rattle.cert_kit.specs.Acceptance.{with_row, step_row, rows_after, ends_false, below_0, below_bounds, Range, range_of, value_row, Accepting, all_accept, accepts_range, accepting_close, accepting_cert, accepts, step_within, steps_within, all_within, within_close, within_cert, is_within, IsGood}
-use Rattle.cert_kit.specs.FirstFault.{◌>>=◌ as ◌>>>◌, walk, step_walk, steps_walk, Faulting, or_else, unless, first_of_all, after_walk, range_fault, fault_close, fault_cert, first_fault}
-use Rattle.cert_kit.proofs.MeaningLaws.{bind_some}
-use Rattle.cert_kit.proofs.RangeLaws.{both}
-use Rattle.cert_kit.proofs.WalkLaws.{Agrees, walk_agrees}
+use Rattle.cert_kit.specs.FirstFault.{walk, step_walk, steps_walk, Faulting, or_else, unless, first_of_all, after_walk, range_fault, fault_close, fault_cert, first_fault}
+use Rattle.cert_kit.proofs.WalkLaws.{FailsBy, Agrees, walk_agrees}
 
-never : {P : Type 0} → false ≡ true → P
-never h = cc
-
--- no fault where both tests hold, else one
+-- no fault where both tests hold; one of a rule where the first fails, one of a bound where the second does
 abbrev pub Decides : Option Fault → Bool → Bool → Type 0
 Decides None a w = (a ≡ true) × (w ≡ true)
-Decides (Some f) a w = a ≡ true → w ≡ true → ⊥
+Decides (Some Rule) a w = a ≡ false
+Decides (Some Bound) a w = w ≡ false
 
 -- the rows after steps, and whether the steps are within their bounds
 abbrev pub StepsAgree : Result (List PRow) Fault → Option (List PRow) → Bool → Type 0
 StepsAgree (Ok rows) o w = (o ≡ Some rows) × (w ≡ true)
-StepsAgree (Err f) o w = (rows : List PRow) → o ≡ Some rows → w ≡ true → ⊥
+StepsAgree (Err f) o w = FailsBy f o w
 
 abbrev StepAgrees : Result PRow Fault → Option PRow → Bool → Type 0
 StepAgrees (Ok r) o w = (o ≡ Some r) × (w ≡ true)
-StepAgrees (Err f) o w = (r : PRow) → o ≡ Some r → w ≡ true → ⊥
+StepAgrees (Err f) o w = FailsBy f o w
 
 rat_agrees : (v : Result Node Fault) (m : Option PRow) (k : Measure) → Agrees v m k → StepAgrees (v >>> λ a. Ok a.row) m k.within
 rat_agrees (Ok n) m k h = (h.0, ap (λ z. z.within) h.1)
@@ -46,7 +45,8 @@ rat_agrees (Err f) m k h = h
 
 cut_agrees : (v : Result Node Fault) (m : Option PRow) (k : Measure) → Agrees v m k → StepAgrees (v >>> λ a. Ok (cut_of a.row)) (m >>= λ r. Some (cut_of r)) k.within
 cut_agrees (Ok n) m k h = (rw (h.0) refl, ap (λ z. z.within) h.1)
-cut_agrees (Err f) m k h = λ r e w. let p = bind_some m _ r e in h p.0 p.1 w
+cut_agrees (Err Rule) m k h = rw h refl
+cut_agrees (Err Bound) m k h = h
 
 step_agrees : (s : Step) (rows : List PRow) → StepAgrees (step_walk s rows) (step_row s rows) (step_within s rows)
 step_agrees (Rat e) rows = rat_agrees (walk e rows) (meaning e rows) (measure e rows) (walk_agrees e rows)
@@ -56,9 +56,8 @@ next_agrees : (v : Result PRow Fault) (o : Option PRow) (w : Bool) (walks : PRow
     → StepAgrees v o w → ((r : PRow) → StepsAgree (walks r) (after r) (within r))
     → StepsAgree (v >>> walks) (o >>= after) (w && option_map_or within o true)
 next_agrees (Ok r) o w walks after within h k = rw (h.0, h.1) (k r)
-next_agrees (Err f) o w walks after within h k = λ rows e t.
-    let p = bind_some o _ rows e in
-    h p.0 p.1 (both _ _ t).0
+next_agrees (Err Rule) o w walks after within h k = rw h refl
+next_agrees (Err Bound) o w walks after within h k = rw h refl
 
 pub steps_agree : (steps : List Step) (rows : List PRow) → StepsAgree (steps_walk steps rows) (rows_after steps rows) (steps_within steps rows)
 steps_agree [] rows = (refl, refl)
@@ -69,16 +68,18 @@ steps_agree (s ∷ steps) rows = next_agrees (step_walk s rows) (step_row s rows
 -- two decisions, the first one first
 or_decides : (f g : Option Fault) (a b v w : Bool) → Decides f a v → Decides g b w → Decides (or_else f g) (a && b) (v && w)
 or_decides None None a b v w h k = rw (h.0, h.1) k
-or_decides None (Some g) a b v w h k = λ p q. k (both _ _ p).1 (both _ _ q).1
-or_decides (Some f) g a b v w h k = λ p q. h (both _ _ p).0 (both _ _ q).0
+or_decides None (Some Rule) a b v w h k = rw (h.0, k) refl
+or_decides None (Some Bound) a b v w h k = rw (h.1, k) refl
+or_decides (Some Rule) g a b v w h k = rw h refl
+or_decides (Some Bound) g a b v w h k = rw h refl
 
 rule_decides : (a : Bool) → Decides (unless a Rule) a true
 rule_decides true = (refl, refl)
-rule_decides false = λ p q. never p
+rule_decides false = refl
 
 bound_decides : (w : Bool) → Decides (unless w Bound) true w
 bound_decides true = (refl, refl)
-bound_decides false = λ p q. never q
+bound_decides false = refl
 
 abbrev pub CertDecides : Cert → Type 0
 CertDecides c = (rows : List PRow) → Decides (first_fault c rows) (accepts c rows) (is_within c rows)
@@ -115,13 +116,8 @@ lengths cs = length-map (certs_of cs) first_fault ∙ sym (length-map (certs_of 
 range_decides : (cs : List KnownCert) (rows : List PRow) (o : Option Range)
     → Decides (range_fault (map first_fault (certs_of cs)) rows o) (option_map_or (accepts_range (map accepts (certs_of cs)) rows) o false)
     (option_map_or (λ (r : Range). all_within r.poly r.low (map is_within (certs_of cs)) rows) o true)
-range_decides cs rows None = λ p q. never p
+range_decides cs rows None = refl
 range_decides cs rows (Some r) = rw (lengths cs) (or_decides _ _ _ _ _ _ (rule_decides _) (all_decide cs r.poly r.low rows))
-
--- what is accepted of an option is accepted of its value
-accepted_some : (accept : Option Range → Bool) (o : Option Range) → accept None ≡ false → accept o ≡ true → (r : Range) × (o ≡ Some r)
-accepted_some accept None none h = never (sym none ∙ h)
-accepted_some accept (Some r) none h = (r, refl)
 
 -- two walks, and what comes after them
 walks_decide : (v w : Result Node Fault) (m n : Option PRow) (j k : Measure) (fault : Option Range → Option Fault) (accept within : Option Range → Bool)
@@ -129,15 +125,10 @@ walks_decide : (v w : Result Node Fault) (m n : Option PRow) (j k : Measure) (fa
     → Decides (after_walk v (λ a. after_walk w (λ b. fault (range_of a.row b.row))))
     (accept (m >>= λ r. n >>= λ s. range_of r s)) ((j.within && k.within) && within (m >>= λ r. n >>= λ s. range_of r s))
 walks_decide (Ok a) (Ok b) m n j k fault accept within h i d none = rw (h.0, h.1, i.0, i.1) (d (range_of a.row b.row))
-walks_decide (Err f) w m n j k fault accept within h i d none = λ p q.
-    let r = accepted_some accept _ none p in
-    let a = bind_some m _ r.0 r.1 in
-    h a.0 a.1 (both _ _ (both _ _ q).0).0
-walks_decide (Ok a) (Err f) m n j k fault accept within h i d none = λ p q.
-    let r = accepted_some accept _ none p in
-    let a = bind_some m _ r.0 r.1 in
-    let b = bind_some n _ r.0 a.2 in
-    i b.0 b.1 (both _ _ (both _ _ q).0).1
+walks_decide (Err Rule) w m n j k fault accept within h i d none = rw h none
+walks_decide (Err Bound) w m n j k fault accept within h i d none = rw h refl
+walks_decide (Ok a) (Err Rule) m n j k fault accept within h i d none = rw (h.0, i) none
+walks_decide (Ok a) (Err Bound) m n j k fault accept within h i d none = rw (h.1, i) refl
 
 level_close : (y : Close-F KnownClose KnownCert) (rows : List PRow)
     → Decides (fault_close (map-Close Close Cert Faulting Faulting close_fault first_fault (map-Close KnownClose KnownCert Close Cert (λ c. c.0) (λ c. c.0) y)) rows)
@@ -158,8 +149,8 @@ after_decides : (v : Result (List PRow) Fault) (o : Option (List PRow)) (w : Boo
     → StepsAgree v o w → ((rows : List PRow) → Decides (fault rows) (accept rows) (within rows))
     → Decides (after_walk v fault) (option_map_or accept o false) (w && option_map_or within o true)
 after_decides (Ok rows) o w fault accept within h d = rw (h.0, h.1) (d rows)
-after_decides (Err f) None w fault accept within h d = λ p q. never p
-after_decides (Err f) (Some rows) w fault accept within h d = λ p q. h rows refl (both _ _ q).0
+after_decides (Err Rule) o w fault accept within h d = rw h refl
+after_decides (Err Bound) o w fault accept within h d = rw h refl
 
 level_cert : (y : Cert-F KnownClose KnownCert) (rows : List PRow)
     → Decides (fault_cert (map-Cert Close Cert Faulting Faulting close_fault first_fault (map-Cert KnownClose KnownCert Close Cert (λ c. c.0) (λ c. c.0) y)) rows)
@@ -196,7 +187,8 @@ none_good (Some f) a w d e = absurd (cc)
 
 good_none : (o : Option Fault) (a w : Bool) → Decides o a w → a ≡ true → w ≡ true → o ≡ None
 good_none None a w d p q = refl
-good_none (Some f) a w d p q = absurd (d p q)
+good_none (Some Rule) a w d p q = never (sym d ∙ p)
+good_none (Some Bound) a w d p q = never (sym d ∙ q)
 
 -- no fault is the same as good
 pub no_fault_good : (c : Cert) (rows : List PRow) → first_fault c rows ≡ None → IsGood rows c
@@ -204,3 +196,21 @@ no_fault_good c rows e = let p = none_good _ _ _ (fault_decides c rows) e in rec
 
 pub good_no_fault : (c : Cert) (rows : List PRow) → IsGood rows c → first_fault c rows ≡ None
 good_no_fault c rows g = good_none _ _ _ (fault_decides c rows) g.accepted g.within
+
+-- what a fault of each kind says
+
+by_rule : (o : Option Fault) (a w : Bool) → Decides o a w → o ≡ Some Rule → a ≡ false
+by_rule None a w d e = absurd (cc)
+by_rule (Some Rule) a w d e = d
+by_rule (Some Bound) a w d e = absurd (cc)
+
+by_bound : (o : Option Fault) (a w : Bool) → Decides o a w → o ≡ Some Bound → w ≡ false
+by_bound None a w d e = absurd (cc)
+by_bound (Some Rule) a w d e = absurd (cc)
+by_bound (Some Bound) a w d e = d
+
+pub rule_not_accepted : (c : Cert) (rows : List PRow) → first_fault c rows ≡ Some Rule → accepts c rows ≡ false
+rule_not_accepted c rows e = by_rule _ _ _ (fault_decides c rows) e
+
+pub bound_not_within : (c : Cert) (rows : List PRow) → first_fault c rows ≡ Some Bound → is_within c rows ≡ false
+bound_not_within c rows e = by_bound _ _ _ (fault_decides c rows) e

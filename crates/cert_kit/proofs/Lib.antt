@@ -7,3 +7,9 @@ pub mod SoundLaws
 pub mod WalkLaws
 pub mod FaultLaws
 pub mod QuotientLaws
+pub mod FormLaws
+pub mod MakerLaws
+pub mod NumberingLaws
+pub mod CutBackLaws
+pub mod CutSameLaws
+pub mod CutTwiceLaws

@@ -1,7 +1,9 @@
 -- What an expression means holds wherever the rows do.
-use Rattle.std.specs.Prelude.{◌≡◌, ℕ, zero, suc, ℤ, pos, List, [], ◌∷◌, Bool, true, false, cond, int_le, refl, Option, Some, None, slice_get}
+use Rattle.std.specs.Prelude.{◌≡◌, ℕ, zero, suc, ℤ, pos, List, [], ◌∷◌, Bool, true, false, cond, int_le, refl, Some, None, slice_get}
 use Rattle.std.proofs.Common.{ap, sym, ◌∙◌, subst, arith}
 use Rattle.std.proofs.lemmas.Int.{ints}
+use Rattle.std.proofs.lemmas.Option.{same_Some}
+use Rattle.mm_num.proofs.OptionLaws.{bind_some}
 use Rattle.mm_num.proofs.Ring.{square_nonneg}
 use Rattle.mm_poly.specs.declared.term.Term.{Term}
 use Rattle.mm_poly.specs.Poly.{value, times, constant_of}
@@ -14,21 +16,13 @@ use Rattle.cert_kit.specs.declared.cert.Psatz.TheOpen.{Psatz-F}
 use Rattle.cert_kit.specs.declared.cert.Psatz.TheViews.{roll-Psatz}
 use Rattle.cert_kit.specs.declared.cert.Psatz.TheFolds.{map-Psatz, fold-roll-Psatz, ind-Psatz}
 use Rattle.cert_kit.specs.Row.{Compares, Holds, Solves}
-use Rattle.cert_kit.specs.Meaning.{◌>>=◌, Meaning, meaning, meaning_step, product_row, sum_row, multiple_row, constant_row, at_least_0}
+use Rattle.cert_kit.specs.Meaning.{Meaning, meaning, meaning_step, product_row, sum_row, multiple_row, constant_row, at_least_0}
 use Rattle.cert_kit.proofs.RowLaws.{sum_compares, product_compares, multiple_is_0}
-
--- what comes of a bind comes of its part
-pub bind_some : {A B : Type 0} (o : Option A) (f : A → Option B) (y : B) → (o >>= f) ≡ Some y → (x : A) × (o ≡ Some x) × (f x ≡ Some y)
-bind_some None f y h = absurd (cc)
-bind_some (Some x) f y h = (x, refl, h)
-
-pub some_is : {A : Type 0} (x y : A) → Some x ≡ Some y → x ≡ y
-some_is x y h = cc
 
 -- a row by its number holds where all do
 pub row_holds : (x : ℕ → ℤ) (rows : List PRow) (n : ℕ) (r : PRow) → Solves x rows → slice_get rows n ≡ Some r → Holds x r
 row_holds x [] n r s e = absurd (cc)
-row_holds x (q ∷ rows) zero r s e = subst (λ (k : PRow). Holds x k) (some_is q r e) s.0
+row_holds x (q ∷ rows) zero r s e = subst (λ (k : PRow). Holds x k) (same_Some q r e) s.0
 row_holds x (q ∷ rows) (suc n) r s e = row_holds x rows n r s.1 e
 
 sum_holds : (x : ℕ → ℤ) (r s : PRow) → Holds x r → Holds x s → Holds x (sum_row r s)
@@ -42,14 +36,14 @@ square_holds x p = rw (value_times x p p) (square_nonneg (value x p))
 
 multiple_holds : (x : ℕ → ℤ) (p : List Term) (o : Op) (q : List Term) (r : PRow) → Compares o (value x q) → multiple_row p o q ≡ Some r → Holds x r
 multiple_holds x p Eq q r h e =
-    subst (λ (k : PRow). Holds x k) (some_is _ r e) (value_times x p q ∙ multiple_is_0 (value x p) (value x q) h)
+    subst (λ (k : PRow). Holds x k) (same_Some _ r e) (value_times x p q ∙ multiple_is_0 (value x p) (value x q) h)
 multiple_holds x p Ge q r h e = absurd (cc)
 
 constant_holds : (x : ℕ → ℤ) (c : ℤ) (r : PRow) → constant_row c ≡ Some r → Holds x r
 constant_holds x c r e = by_test (int_le (pos 1) c) refl e
   where
     by_test : (t : Bool) → int_le (pos 1) c ≡ t → cond t (Some (at_least_0 (constant_of c))) None ≡ Some r → Holds x r
-    by_test true p q = subst (λ (k : PRow). Holds x k) (some_is _ r q) (rw (value_constant x c) (grind (arith, ints)))
+    by_test true p q = subst (λ (k : PRow). Holds x k) (same_Some _ r q) (rw (value_constant x c) (grind (arith, ints)))
     by_test false p q = absurd (cc)
 
 -- one level of an expression
@@ -59,20 +53,20 @@ IsSound e = (rows : List PRow) (x : ℕ → ℤ) (r : PRow) → Solves x rows �
 level : (y : Psatz-F ((e : Psatz) × IsSound e)) (rows : List PRow) (x : ℕ → ℤ) (r : PRow) → Solves x rows
     → meaning_step (map-Psatz Psatz Meaning meaning (map-Psatz ((e : Psatz) × IsSound e) Psatz (λ p. p.0) y)) rows ≡ Some r → Holds x r
 level (Psatz-F.Hyp n) rows x r s e = row_holds x rows n r s e
-level (Psatz-F.Square p) rows x r s e = subst (λ (k : PRow). Holds x k) (some_is _ r e) (square_holds x p)
+level (Psatz-F.Square p) rows x r s e = subst (λ (k : PRow). Holds x k) (same_Some _ r e) (square_holds x p)
 level (Psatz-F.MulPoly p a) rows x r s e =
     let b = bind_some (meaning a.0 rows) _ r e in
     multiple_holds x p b.0.op b.0.poly r (a.1 rows x b.0 s b.1) b.2
 level (Psatz-F.Mul a b) rows x r s e =
     let p = bind_some (meaning a.0 rows) _ r e in
     let q = bind_some (meaning b.0 rows) _ r p.2 in
-    subst (λ (k : PRow). Holds x k) (some_is _ r q.2) (product_holds x p.0 q.0 (a.1 rows x p.0 s p.1) (b.1 rows x q.0 s q.1))
+    subst (λ (k : PRow). Holds x k) (same_Some _ r q.2) (product_holds x p.0 q.0 (a.1 rows x p.0 s p.1) (b.1 rows x q.0 s q.1))
 level (Psatz-F.Add a b) rows x r s e =
     let p = bind_some (meaning a.0 rows) _ r e in
     let q = bind_some (meaning b.0 rows) _ r p.2 in
-    subst (λ (k : PRow). Holds x k) (some_is _ r q.2) (sum_holds x p.0 q.0 (a.1 rows x p.0 s p.1) (b.1 rows x q.0 s q.1))
+    subst (λ (k : PRow). Holds x k) (same_Some _ r q.2) (sum_holds x p.0 q.0 (a.1 rows x p.0 s p.1) (b.1 rows x q.0 s q.1))
 level (Psatz-F.Const c) rows x r s e = constant_holds x c r e
-level Psatz-F.Zero rows x r s e = subst (λ (k : PRow). Holds x k) (some_is _ r e) refl
+level Psatz-F.Zero rows x r s e = subst (λ (k : PRow). Holds x k) (same_Some _ r e) refl
 
 -- the meaning of an expression holds at each solution of the rows
 pub meaning_holds : (e : Psatz) → IsSound e

@@ -1,10 +1,12 @@
 -- A polynomial lies in the range that two inequalities give.
-use Rattle.std.specs.Prelude.{◌≡◌, ℕ, ℤ, pos, negsuc, neg_ℤ, ◌+ℤ◌, ◌-ℤ◌, ◌*ℤ◌, ◌≤ℤ◌, ◌<ℤ◌, List, [], ◌∷◌, Bool, true, false, cond, ◌&&◌, refl, Some, None}
+use Rattle.std.specs.Prelude.{◌≡◌, ℕ, ℤ, pos, negsuc, neg_ℤ, ◌+ℤ◌, ◌-ℤ◌, ◌*ℤ◌, ◌≤ℤ◌, ◌<ℤ◌, List, [], ◌∷◌, Bool, true, false, cond, refl, Some, None}
 use Rattle.std.proofs.Common.{ap, sym, ◌∙◌, subst, arith}
 use Rattle.std.proofs.lemmas.Int.{ints}
 use Rattle.std.specs.Ordering.{int_eq, is_eq}
 use Rattle.std.specs.declared.cmp.Ordering.{Ordering}
 use Rattle.std.specs.declared.cmp.Ordering.TheVariants.{Less, Equal, Greater}
+use Rattle.std.proofs.lemmas.Option.{same_Some}
+use Rattle.std.proofs.lemmas.Bool.{and_parts}
 use Rattle.mm_num.proofs.Ring.{neg_mul}
 use Rattle.mm_poly.specs.declared.term.Term.{Term}
 use Rattle.mm_poly.specs.Mono.{mono_value}
@@ -13,14 +15,8 @@ use Rattle.mm_poly.proofs.ValueLaws.{value_plus, value_scaled, value_constant}
 use Rattle.mm_poly.proofs.OrderLaws.{mono_exact}
 use Rattle.mm_poly.proofs.CutLaws.{value_parts}
 use Rattle.cert_kit.specs.Row.{Holds}
-use Rattle.cert_kit.proofs.MeaningLaws.{some_is}
-use Rattle.cert_kit.specs.Acceptance.{is_opposite, Range, range_between, values_of, not_below_0, value_row, below_0}
-
--- both of two tests
-pub both : (a b : Bool) → (a && b) ≡ true → (a ≡ true) × (b ≡ true)
-both true true h = (refl, refl)
-both true false h = absurd (cc)
-both false b h = absurd (cc)
+use Rattle.mm_poly.specs.Poly.{is_opposite}
+use Rattle.cert_kit.specs.Acceptance.{Range, range_between, values_of, not_below_0, value_row, below_0}
 
 int_is : (a b : ℤ) → int_eq a b ≡ true → a ≡ b
 int_is a b h = grind (arith, ints)
@@ -36,8 +32,8 @@ value_opposite x [] [] h = refl
 value_opposite x [] (u ∷ us) h = absurd (cc)
 value_opposite x (t ∷ ts) [] h = absurd (cc)
 value_opposite x (t ∷ ts) (u ∷ us) h =
-    let first = both _ _ h in
-    let second = both _ _ first.1 in
+    let first = and_parts _ _ h in
+    let second = and_parts _ _ first.1 in
     let m : t.mono ≡ u.mono = mono_exact t.mono u.mono (equal_is _ first.0) in
     let c : u.coeff ≡ neg_ℤ t.coeff = int_is u.coeff (neg_ℤ t.coeff) second.0 in
     let rest : value x us ≡ neg_ℤ (value x ts) = value_opposite x ts us second.1 in
@@ -63,7 +59,7 @@ in_between x lower upper r h k e = by_test (is_opposite (without_constant lower)
         let c = value_opposite x (without_constant lower) (without_constant upper) o in
         let found : IsIn (value x (without_constant lower)) (record { poly = without_constant lower; low = neg_ℤ (constant_part lower); high = constant_part upper }) =
         record { least = omega (arith, ints, a, h); greatest = omega (arith, ints, b, c, k) } in
-        subst (λ (z : Range). IsIn (value x z.poly) z) (some_is _ r p) found
+        subst (λ (z : Range). IsIn (value x z.poly) z) (same_Some _ r p) found
     by_test false o p = absurd (cc)
 
 -- there are as many values as the range says

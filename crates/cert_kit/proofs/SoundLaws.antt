@@ -4,6 +4,9 @@ use Rattle.std.proofs.Common.{ap, sym, ◌∙◌, subst, arith}
 use Rattle.std.proofs.lemmas.Int.{ints, by_lt_z}
 use Rattle.std.proofs.lemmas.List.{length-map}
 use Rattle.std.specs.Option.{option_map_or}
+use Rattle.std.proofs.lemmas.Option.{same_Some}
+use Rattle.std.proofs.lemmas.Bool.{and_parts}
+use Rattle.mm_num.proofs.OptionLaws.{bind_some}
 use Rattle.mm_poly.specs.declared.term.Term.{Term}
 use Rattle.mm_poly.specs.Poly.{value, without_constant, constant_part}
 use Rattle.mm_poly.proofs.CutLaws.{value_parts}
@@ -23,8 +26,8 @@ use Rattle.cert_kit.specs.Cut.{cut_of}
 use Rattle.cert_kit.specs.Meaning.{meaning, at_least_0}
 use Rattle.cert_kit.specs.Acceptance.{with_row, step_row, rows_after, ends_false, below_0, Range, range_by, values_of, value_row, Accepting, all_accept, accepts_range, enum_range, accepting_close, accepting_cert, accepts}
 use Rattle.cert_kit.proofs.RowLaws.{false_constant}
-use Rattle.cert_kit.proofs.MeaningLaws.{bind_some, some_is, row_holds, meaning_holds}
-use Rattle.cert_kit.proofs.RangeLaws.{both, IsIn, in_between, count_reaches, value_row_holds, below_holds}
+use Rattle.cert_kit.proofs.MeaningLaws.{row_holds, meaning_holds}
+use Rattle.cert_kit.proofs.RangeLaws.{IsIn, in_between, count_reaches, value_row_holds, below_holds}
 use Rattle.cert_kit.proofs.CutLaws.{cut_holds, cut_of_least}
 
 -- one more row that holds
@@ -36,11 +39,11 @@ step_holds : (x : ℕ → ℤ) (s : Step) (rows : List PRow) (r : PRow) → Solv
 step_holds x (Rat e) rows r h p = meaning_holds e rows x r h p
 step_holds x (Cut e) rows r h p =
     let b = bind_some (meaning e rows) _ r p in
-    subst (λ (k : PRow). Holds x k) (some_is _ r b.2) (cut_holds x b.0 (meaning_holds e rows x b.0 h b.1))
+    subst (λ (k : PRow). Holds x k) (same_Some _ r b.2) (cut_holds x b.0 (meaning_holds e rows x b.0 h b.1))
 
 -- the rows after the steps hold wherever the rows do
 pub steps_hold : (x : ℕ → ℤ) (steps : List Step) (rows after : List PRow) → Solves x rows → rows_after steps rows ≡ Some after → Solves x after
-steps_hold x [] rows after h p = subst (Solves x) (some_is rows after p) h
+steps_hold x [] rows after h p = subst (Solves x) (same_Some rows after p) h
 steps_hold x (s ∷ steps) rows after h p =
     let b = bind_some (step_row s rows) _ after p in
     steps_hold x steps (with_row rows b.0) after (solves_more x rows b.0 h (step_holds x s rows b.0 h b.1)) b.2
@@ -52,7 +55,7 @@ no_terms x (t ∷ ts) h = absurd (cc)
 -- a false constant row holds nowhere
 pub false_holds : (x : ℕ → ℤ) (r : PRow) → is_false r ≡ true → Holds x r → ⊥
 false_holds x r h k =
-    let b = both _ _ h in
+    let b = and_parts _ _ h in
     let e : value x r.poly ≡ constant_part r.poly =
     value_parts x r.poly ∙ ap (λ n. n +ℤ constant_part r.poly) (no_terms x (without_constant r.poly) b.0) ∙ zero_sum _ in
     false_constant r.op (constant_part r.poly) b.1 (subst (Compares r.op) e k)
@@ -95,7 +98,7 @@ members_sound : (cs : List SoundCert) (q : List Term) (v : ℤ) (rows : List PRo
     → all_accept q v (map accepts (map (λ c. c.0) cs)) rows ≡ true → Solves x rows → v ≤ℤ value x q → value x q <ℤ (v +ℤ pos (length cs)) → ⊥
 members_sound [] q v rows x h s low high = omega (arith, ints)
 members_sound (c ∷ cs) q v rows x h s low high =
-    let b = both _ _ h in
+    let b = and_parts _ _ h in
     by_lt_z v (value x q)
     (λ l. members_sound cs q (v +ℤ pos 1) rows x b.1 s (omega (arith, ints)) (omega (arith, ints)))
     (λ l. c.1 (with_row rows (value_row q v)) b.0 x (solves_more x rows (value_row q v) s (value_row_holds x q v (omega (arith, ints)))))
@@ -119,7 +122,7 @@ enum_sound e f cs rows h x s =
     let b = map_or_true (accepts_range (map accepts (map (λ c. c.0) cs)) rows) (enum_range e f rows) h in
     let m = bind_some (meaning e rows) _ b.0 b.1 in
     let n = bind_some (meaning f rows) _ b.0 m.2 in
-    let t = both _ _ b.2 in
+    let t = and_parts _ _ b.2 in
     let within : IsIn (value x b.0.poly) b.0 =
     in_range x m.0.op n.0.op m.0 n.0 b.0 (meaning_holds e rows x m.0 s m.1) (meaning_holds f rows x n.0 s n.1) refl refl n.2 in
     let count : length cs ≡ values_of b.0 =
@@ -132,7 +135,7 @@ level_close : (y : Close-F SoundClose SoundCert) (rows : List PRow)
     → HasNoSolution rows
 level_close Close-F.Done rows h = done_sound rows h
 level_close (Close-F.Split p c d) rows h =
-    let b = both _ _ h in
+    let b = and_parts _ _ h in
     split_sound rows p (c.1 (with_row rows (at_least_0 p)) b.0) (d.1 (with_row rows (at_least_0 (below_0 p))) b.1)
 level_close (Close-F.Enum e f cs) rows h = enum_sound e f cs rows h
 

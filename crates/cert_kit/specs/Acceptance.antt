@@ -1,10 +1,9 @@
 -- When the rules accept a certificate over a list of rows, and when it is good.
 use Rattle.std.specs.Prelude.{◌≡◌, ℕ, ◌+◌, ◌-◌, ℤ, pos, negsuc, ◌+ℤ◌, ◌-ℤ◌, neg_ℤ, List, [], ◌∷◌, ◌++◌, length, Bool, true, false, ◌&&◌, ◌==◌, Option, Some, None, slice_get, if◌then◌else◌}
 use Rattle.std.specs.Option.{option_map_or}
-use Rattle.std.specs.Ordering.{int_eq, is_eq}
+use Rattle.mm_num.specs.Option.{◌>>=◌}
 use Rattle.mm_poly.specs.declared.term.Term.{Term}
-use Rattle.mm_poly.specs.Mono.{mono_cmp}
-use Rattle.mm_poly.specs.Poly.{norm, spread, degree, plus, scaled, constant_of, constant_part, without_constant}
+use Rattle.mm_poly.specs.Poly.{norm, spread, degree, plus, scaled, constant_of, constant_part, without_constant, is_opposite}
 use Rattle.cert_kit.specs.declared.row.Op.{Op}
 use Rattle.cert_kit.specs.declared.row.Op.TheVariants.{Ge, Eq}
 use Rattle.cert_kit.specs.declared.row.PRow.{PRow}
@@ -16,7 +15,7 @@ use Rattle.cert_kit.specs.declared.cert.Close.TheOpen.{Close-F, Cert-F}
 use Rattle.cert_kit.specs.declared.cert.Close.TheFolds.{fold-Cert}
 use Rattle.cert_kit.specs.Row.{is_false}
 use Rattle.cert_kit.specs.Cut.{cut_of}
-use Rattle.cert_kit.specs.Meaning.{◌>>=◌, meaning, measure, Bounds, own_bounds, are_within, at_least_0, equal_to_0}
+use Rattle.cert_kit.specs.Meaning.{meaning, measure, Bounds, own_bounds, are_within, at_least_0, equal_to_0}
 
 -- the rows with one more
 abbrev pub with_row : List PRow → PRow → List PRow
@@ -43,13 +42,6 @@ ends_false rows = option_map_or is_false (slice_get rows (length rows - 1)) fals
 -- -p - 1
 abbrev pub below_0 : List Term → List Term
 below_0 p = plus (scaled (negsuc 0) p) (constant_of (negsuc 0))
-
--- whether the second polynomial is the first times -1
-abbrev pub is_opposite : List Term → List Term → Bool
-is_opposite [] [] = true
-is_opposite (t ∷ ts) (u ∷ us) = is_eq (mono_cmp t.mono u.mono) && (int_eq u.coeff (neg_ℤ t.coeff) && is_opposite ts us)
-is_opposite [] (u ∷ us) = false
-is_opposite (t ∷ ts) [] = false
 
 -- a polynomial without constant term, and the least and the greatest value that it is said to have
 pub record Range : Type 0 where

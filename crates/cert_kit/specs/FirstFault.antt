@@ -1,6 +1,7 @@
 -- The first fault of a certificate: steps in order, an expression's operands first and from left to right, then the
 -- close and its members in order; at each node the rule first, and then the bounds.
 use Rattle.std.specs.Prelude.{ℤ, pos, ◌+ℤ◌, List, [], ◌∷◌, length, Bool, true, false, ◌&&◌, ◌==◌, Option, Some, None, Result, Ok, Err, slice_get, if◌then◌else◌}
+use Rattle.mm_num.specs.Result.{◌>>=◌}
 use Rattle.mm_poly.specs.declared.term.Term.{Term}
 use Rattle.mm_poly.specs.Poly.{times}
 use Rattle.cert_kit.specs.declared.node.Fault.{Fault}
@@ -18,11 +19,6 @@ use Rattle.cert_kit.specs.declared.cert.Close.TheFolds.{fold-Cert}
 use Rattle.cert_kit.specs.Cut.{cut_of}
 use Rattle.cert_kit.specs.Meaning.{Bounds, own_bounds, no_bounds, product_bounds, sum_bounds, constant_bounds, are_within, product_row, sum_row, multiple_row, constant_row, at_least_0, equal_to_0}
 use Rattle.cert_kit.specs.Acceptance.{with_row, ends_false, below_0, below_bounds, Range, range_of, values_of, value_row}
-
-infixl 10 ◌>>=◌
-abbrev pub ◌>>=◌ : {A B : Type 0} → Result A Fault → (A → Result B Fault) → Result B Fault
-(Ok x) >>= f = f x
-(Err e) >>= f = Err e
 
 -- a row with its bounds
 abbrev pub node_of : PRow → Bounds → Node

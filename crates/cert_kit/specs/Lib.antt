@@ -4,3 +4,4 @@ pub mod Meaning
 pub mod Acceptance
 pub mod FirstFault
 pub mod Depth
+pub mod Making

@@ -1,6 +1,7 @@
 -- What an expression means over a list of rows, and its three bounds.
 use Rattle.std.specs.Prelude.{ℕ, ◌+◌, ◌*◌, ◌^◌, ℤ, pos, max, unsigned_abs, List, [], Bool, true, nat_lt, nat_le, int_le, ◌&&◌, Option, Some, None, slice_get, if◌then◌else◌}
 use Rattle.std.specs.Option.{option_map_or}
+use Rattle.mm_num.specs.Option.{◌>>=◌}
 use Rattle.mm_poly.specs.declared.term.Term.{Term}
 use Rattle.mm_poly.specs.Poly.{norm, spread, degree, plus, times, constant_of}
 use Rattle.cert_kit.specs.declared.row.Op.{Op}
@@ -9,11 +10,6 @@ use Rattle.cert_kit.specs.declared.row.PRow.{PRow}
 use Rattle.cert_kit.specs.declared.cert.Psatz.{Psatz}
 use Rattle.cert_kit.specs.declared.cert.Psatz.TheOpen.{Psatz-F}
 use Rattle.cert_kit.specs.declared.cert.Psatz.TheFolds.{fold-Psatz}
-
-infixl 10 ◌>>=◌
-abbrev pub ◌>>=◌ : {A B : Type 0} → Option A → (A → Option B) → Option B
-(Some x) >>= f = f x
-None >>= f = None
 
 -- a product is 0 where a factor is; a sum is 0 where both parts are
 abbrev pub product_op : Op → Op → Op

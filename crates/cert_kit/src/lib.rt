@@ -10,13 +10,18 @@ mod constants;
 mod copy;
 mod cut;
 mod law;
+mod maker;
 mod nesting;
 mod node;
 mod row;
 
 pub use cert::{Cert, Close, Psatz, Step};
-pub use cut::{constant_term, cut_row};
+pub use cut::cut_row;
 pub use law::{faultless, soundness};
+pub use maker::{
+    closes_are_good, cuts_keep_solutions, cuts_of_cuts, meanings, measures, rows_may_be_renumbered,
+    steps_make_rows,
+};
 pub use nesting::depth;
 pub use node::{Fault, Node};
 pub use row::{Clause, Op, PRow, false_row};

@@ -1,4 +1,4 @@
-use crate::{Cert, Clause, Close, Op, PRow, Psatz, Step, cut_row, depth, false_row};
+use crate::{Cert, Close, Psatz, Step, depth};
 use mm_poly::Poly;
 use sqlite_items::{Boxed, Items};
 use std::alloc::{AllocError, Global};
@@ -54,87 +54,18 @@ fn constants_are_at_least_1_and_small(rt: HostRuntime) -> Result<(), Fail> {
     for (constant, made) in [
         (1, true),
         (0, false),
-        (-5, false),
-        (85070591730234615865843651857942052863, true),
-        (85070591730234615865843651857942052864, false),
+        ((1 << 126) - 1, true),
+        (1 << 126, false),
     ] {
-        let part = Boxed::new(alloc, Psatz::Const(constant))?;
-        let e = Psatz::MulPoly(Poly::constant(alloc, 2)?, part);
-        assert_eq!(rt; makes(alloc, e)?, made, "{constant}");
+        assert_eq!(rt; makes(alloc, Psatz::Const(constant))?, made, "{constant}");
     }
     Ok(())
 }
 
 #[test]
-fn false_rows_are_constant(rt: HostRuntime) -> Result<(), Fail> {
+fn copies_are_as_deep(rt: HostRuntime) -> Result<(), Fail> {
     let alloc = rt.alloc();
-    for (constant, at_least_0, equal) in [(-1, true, true), (0, false, false), (1, false, true)] {
-        let row = PRow {
-            poly: Poly::constant(alloc, constant)?,
-            op: Op::Ge,
-        };
-        assert_eq!(rt; false_row(&row), at_least_0, "{constant} >= 0");
-        let row = PRow {
-            poly: Poly::constant(alloc, constant)?,
-            op: Op::Eq,
-        };
-        assert_eq!(rt; false_row(&row), equal, "{constant} = 0");
-    }
-    let row = PRow {
-        poly: Poly::var(alloc, 3)?,
-        op: Op::Eq,
-    };
-    assert!(rt; !false_row(&row));
-    Ok(())
-}
-
-// The row a*x0 + b*x1 + k.
-fn line(alloc: Global, a: i8, b: i8, k: i8, op: Op) -> Result<PRow, Fail> {
-    let first = Poly::var(alloc, 0)?.scale(alloc, i128::from(a))?;
-    let second = Poly::var(alloc, 1)?.scale(alloc, i128::from(b))?;
-    let sum = first.add(alloc, &second)?;
-    let poly = sum.add(alloc, &Poly::constant(alloc, i128::from(k))?)?;
-    Ok(PRow { poly, op })
-}
-
-// A row's numbers, and those of its cut.
-const CUTS: [(i8, i8, i8, Op, i8, i8, i8, Op); 7] = [
-    (0, 0, -3, Op::Ge, 0, 0, -3, Op::Ge),
-    (2, 0, -1, Op::Ge, 1, 0, -1, Op::Ge),
-    (-2, 0, 5, Op::Ge, -1, 0, 2, Op::Ge),
-    (5, 3, -7, Op::Ge, 5, 3, -7, Op::Ge),
-    (4, -6, 8, Op::Eq, 2, -3, 4, Op::Eq),
-    (3, 6, 2, Op::Eq, 0, 0, -1, Op::Ge),
-    (3, 6, -2, Op::Eq, 0, 0, -1, Op::Ge),
-];
-
-#[test]
-fn cuts_round_constants_down(rt: HostRuntime) -> Result<(), Fail> {
-    let alloc = rt.alloc();
-    for (a, b, k, op, c, d, l, cut_op) in CUTS {
-        let cut = cut_row(alloc, &line(alloc, a, b, k, op)?)?;
-        let wanted = line(alloc, c, d, l, cut_op)?;
-        assert!(rt; cut.poly.same(&wanted.poly), "{a}, {b}, {k}");
-        assert_eq!(rt; cut.op, cut_op, "{a}, {b}, {k}");
-    }
-    Ok(())
-}
-
-#[test]
-fn copies_are_equal(rt: HostRuntime) -> Result<(), Fail> {
-    let alloc = rt.alloc();
-    let row = line(alloc, 7, -9, 10, Op::Eq)?;
-    let clause = Clause {
-        rows: Items::from_vec(vec![in alloc; row.copy(alloc)?]?),
-    };
-    let copied = clause.copy(alloc)?;
-    for other in copied.rows.as_slice() {
-        assert!(rt; row.poly.same(&other.poly));
-        assert_eq!(rt; other.op, Op::Eq);
-    }
-    assert_eq!(rt; copied.rows.len(), 1);
-    let cert = done(alloc, nested(alloc, 4096)?)?;
-    let other = cert.copy(alloc)?;
-    assert_eq!(rt; (depth(&other), other.steps.len()), (4096, 1));
+    let copy = done(alloc, nested(alloc, 4096)?)?.copy(alloc)?;
+    assert_eq!(rt; (depth(&copy), copy.steps.len()), (4096, 1));
     Ok(())
 }
