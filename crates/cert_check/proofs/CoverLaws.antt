@@ -1,16 +1,15 @@
 -- The bounds of a product and of a sum cover it.
-use Rattle.std.specs.Prelude.{◌≡◌, ℕ, ◌+◌, ◌*◌, ◌≤◌, max, List, Result, Ok, Err, Bool, true, false, cond}
-use Rattle.std.proofs.Common.{arith, ap, sym, ◌∙◌, subst}
+use Rattle.std.specs.Prelude.{◌≡◌, ℕ, ◌*◌, ◌≤◌, List, Ok, Err, Bool, true, false, cond}
+use Rattle.std.proofs.Common.{arith, sym, subst}
 use Rattle.mm_poly.specs.declared.term.Term.{Term}
-use Rattle.mm_poly.specs.Poly.{norm, spread, degree, plus, times}
+use Rattle.mm_poly.specs.Poly.{norm, spread, plus, times}
 use Rattle.mm_poly.proofs.BoundLaws.{norm_plus, spread_plus, degree_plus, norm_times, spread_times, degree_times}
-use Rattle.cert_kit.specs.declared.node.Fault.{Fault}
 use Rattle.cert_kit.specs.declared.node.Fault.TheVariants.{Bound}
 use Rattle.cert_kit.specs.declared.node.Node.{Node}
 use Rattle.cert_kit.specs.declared.row.Op.{Op}
 use Rattle.cert_kit.specs.declared.row.PRow.{PRow}
 use Rattle.cert_kit.specs.Meaning.{Bounds, own_bounds, are_within, product_bounds, sum_bounds}
-use Rattle.cert_kit.specs.FirstFault.{node_of, bounds_of}
+use Rattle.cert_kit.specs.FirstFault.{node_of}
 use Rattle.cert_check.specs.Room.{Covers}
 use Rattle.cert_check.specs.Checking.{within, CoversRow}
 

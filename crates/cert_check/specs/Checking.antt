@@ -1,15 +1,15 @@
 -- What the parts of the checker give, in the words of the first fault.
-use Rattle.std.specs.Prelude.{◌≡◌, Result, Ok, Err, Option, Some, None, List, Bool, true, false, ◌&&◌, if◌then◌else◌}
-use Rattle.mm_poly.specs.declared.term.Term.{Term}
+use Rattle.std.specs.Prelude.{◌≡◌, Result, Ok, Err, Option, Some, None, List, if◌then◌else◌}
+use Rattle.mm_num.specs.Result.{◌>>=◌}
 use Rattle.cert_kit.specs.declared.node.Fault.{Fault}
 use Rattle.cert_kit.specs.declared.node.Fault.TheVariants.{Rule, Bound}
 use Rattle.cert_kit.specs.declared.node.Node.{Node}
 use Rattle.cert_kit.specs.declared.row.PRow.{PRow}
 use Rattle.cert_kit.specs.declared.cert.Close.{Close}
 use Rattle.cert_kit.specs.declared.cert.Close.TheFolds.{fold-Close}
-use Rattle.cert_kit.specs.Meaning.{Bounds, are_within, own_bounds, at_least_0}
-use Rattle.cert_kit.specs.Acceptance.{Range, range_of, with_row, below_0, below_bounds}
-use Rattle.cert_kit.specs.FirstFault.{◌>>=◌, Faulting, or_else, unless, after_walk, range_fault, fault_close, fault_cert, bounds_of}
+use Rattle.cert_kit.specs.Meaning.{Bounds, are_within}
+use Rattle.cert_kit.specs.Acceptance.{Range, range_of}
+use Rattle.cert_kit.specs.FirstFault.{Faulting, range_fault, fault_close, fault_cert, bounds_of}
 use Rattle.cert_check.specs.Room.{Covers}
 use Rattle.cert_check.specs.declared.fail.CheckFail.{CheckFail}
 use Rattle.cert_check.specs.declared.fail.CheckFail.TheVariants.{Wrong, NoMemory}

@@ -1,5 +1,5 @@
 -- What leaves room for a result within the limits.
-use Rattle.std.specs.Prelude.{ℕ, ◌+◌, ◌*◌, ◌^◌, ◌<◌, ◌≤◌, unsigned_abs, List}
+use Rattle.std.specs.Prelude.{◌+◌, ◌^◌, ◌<◌, ◌≤◌, unsigned_abs, List}
 use Rattle.mm_poly.specs.declared.term.Term.{Term}
 use Rattle.mm_poly.specs.Poly.{norm, spread, degree, constant_of}
 use Rattle.cert_kit.specs.Meaning.{Bounds}
@@ -10,17 +10,6 @@ pub record Covers (b : Bounds) (p : List Term) : Type 0 where
   pub norm : norm p ≤ b.norm
   pub spread : spread p ≤ b.spread
   pub degree : degree p ≤ b.degree
-
--- the sum of two polynomials is within the limits
-pub record SumHasRoom (p q : List Term) : Type 0 where
-  pub norm : norm p + norm q < 2 ^ 126
-  pub spread : spread p + spread q ≤ 65536
-
--- the product of two polynomials is within the limits
-pub record ProductHasRoom (p q : List Term) : Type 0 where
-  pub norm : norm p * norm q < 2 ^ 126
-  pub spread : spread p * spread q ≤ 65536
-  pub degree : degree p + degree q ≤ 255
 
 -- the least and the greatest value can be subtracted from the polynomial
 pub record ValuesHaveRoom (r : Range) : Type 0 where

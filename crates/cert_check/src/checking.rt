@@ -1,6 +1,6 @@
-ghost use Rattle.std.specs.Prelude.{◌≡◌, IfOk};
+ghost use Rattle.std.specs.Prelude.{◌≡◌, ◌↔◌, false, IfOk};
 ghost use Rattle.cert_kit.specs.Row.{HasNoSolution};
-ghost use Rattle.cert_kit.specs.Acceptance.{IsGood};
+ghost use Rattle.cert_kit.specs.Acceptance.{accepts, is_within, IsGood};
 ghost use Rattle.cert_kit.specs.FirstFault.{first_fault};
 ghost use Rattle.cert_check.specs.Verdict.{verdict_of};
 
@@ -24,7 +24,9 @@ pub enum Verdict {
 /// What the rules say of a certificate over a clause.
 pub fn check(alloc: Global, clause: &Clause, cert: &Cert) -> Result<Verdict, AllocError>
     ensures exact { IfOk result (λ verdict. verdict ≡ verdict_of (first_fault cert.now clause.now.rows)) }
-    ensures accepted { IfOk result (λ verdict. verdict ≡ Verdict.Accepted → IsGood clause.now.rows cert.now) }
+    ensures accepted { IfOk result (λ verdict. (verdict ≡ Verdict.Accepted) ↔ IsGood clause.now.rows cert.now) }
+    ensures rejected { IfOk result (λ verdict. verdict ≡ Verdict.Rejected → accepts cert.now clause.now.rows ≡ false) }
+    ensures size { IfOk result (λ verdict. verdict ≡ Verdict.Size → is_within cert.now clause.now.rows ≡ false) }
     ensures sound { IfOk result (λ verdict. verdict ≡ Verdict.Accepted → HasNoSolution clause.now.rows) }
 {
     Ok(verdict_on(fault_of(alloc, clause.rows.as_slice(), cert)?))

@@ -9,7 +9,6 @@ mod close;
 mod fail;
 mod interval;
 mod node;
-mod room;
 mod rows;
 mod size;
 mod split;

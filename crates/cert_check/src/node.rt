@@ -5,7 +5,6 @@ ghost use Rattle.cert_kit.specs.FirstFault.{row_at, tested, tested_rule, bounds_
 ghost use Rattle.cert_check.specs.Checking.{Gives, CoversRow};
 
 use crate::fail::CheckFail;
-use crate::room::{product, sum};
 use crate::rows::Rows;
 use crate::size::Size;
 use cert_kit::{Fault, Node, Op, PRow};
@@ -41,7 +40,7 @@ pub fn square_node(alloc: Global, poly: &Poly) -> Result<Boxed<Node>, CheckFail>
 {
     let own = Size::of(poly);
     let size = own.times(&own)?;
-    let square = product(alloc, poly, poly)?;
+    let square = poly.product(alloc, poly)?;
     let row = PRow {
         poly: square,
         op: Op::Ge,
@@ -59,7 +58,7 @@ pub fn multiple_node(alloc: Global, poly: &Poly, part: &Node) -> Result<Boxed<No
         return Err(CheckFail::Wrong(Fault::Rule));
     }
     let size = Size::of(poly).times(&Size::of_node(part))?;
-    let multiple = product(alloc, poly, &part.row.poly)?;
+    let multiple = poly.product(alloc, &part.row.poly)?;
     let row = PRow {
         poly: multiple,
         op: Op::Eq,
@@ -75,7 +74,7 @@ pub fn product_node(alloc: Global, first: &Node, second: &Node) -> Result<Boxed<
     ensures covers { IfOk result CoversRow }
 {
     let size = Size::of_node(first).times(&Size::of_node(second))?;
-    let poly = product(alloc, &first.row.poly, &second.row.poly)?;
+    let poly = first.row.poly.product(alloc, &second.row.poly)?;
     let row = PRow {
         poly,
         op: op_of_product(first.row.op, second.row.op),
@@ -91,7 +90,7 @@ pub fn sum_node(alloc: Global, first: &Node, second: &Node) -> Result<Boxed<Node
     ensures covers { IfOk result CoversRow }
 {
     let size = Size::of_node(first).plus(&Size::of_node(second))?;
-    let poly = sum(alloc, &first.row.poly, &second.row.poly)?;
+    let poly = first.row.poly.sum(alloc, &second.row.poly)?;
     let row = PRow {
         poly,
         op: op_of_sum(first.row.op, second.row.op),

@@ -1,5 +1,4 @@
-ghost use Rattle.std.specs.Prelude.{◌≡◌, ◌<◌, ◌^◌, negsuc, true, ◌&&◌, IfOk, OnOk};
-ghost use Rattle.mm_poly.specs.Poly.{norm, scaled};
+ghost use Rattle.std.specs.Prelude.{◌≡◌, true, ◌&&◌, OnOk};
 ghost use Rattle.cert_kit.specs.Meaning.{own_bounds, are_within, at_least_0};
 ghost use Rattle.cert_kit.specs.Acceptance.{with_row, below_0, below_bounds};
 ghost use Rattle.cert_kit.specs.declared.node.Fault.TheVariants.{Bound};
@@ -7,11 +6,10 @@ ghost use Rattle.cert_kit.specs.FirstFault.{unless};
 ghost use Rattle.cert_check.specs.Checking.{Finds};
 
 use crate::fail::CheckFail;
-use crate::room::sum;
 use crate::rows::Rows;
 use crate::size::Size;
 use cert_kit::{Op, PRow};
-use mm_poly::{Poly, PolyFail};
+use mm_poly::Poly;
 use std::alloc::{AllocError, Global};
 
 /// Tests the bounds of the polynomial, and those of its negation less 1.
@@ -38,20 +36,9 @@ pub fn push_lower_side(alloc: Global, rows: &mut Rows<'_>, poly: &Poly) -> Resul
     requires { are_within (below_bounds poly.now) ≡ true }
     ensures { OnOk result (rows.new ≡ with_row rows.old (at_least_0 (below_0 poly.now))) }
 {
-    let negated = negation(alloc, poly)?;
+    let negated = poly.multiple(alloc, -1)?;
     rows.push(PRow {
-        poly: sum(alloc, &negated, &Poly::constant(alloc, -1)?)?,
+        poly: negated.sum(alloc, &Poly::constant(alloc, -1)?)?,
         op: Op::Ge,
     })
-}
-
-fn negation(alloc: Global, poly: &Poly) -> Result<Poly, AllocError>
-    requires { norm poly.now < 2 ^ 126 }
-    ensures { IfOk result (λ p. p ≡ scaled (negsuc 0) poly.now) }
-{
-    match poly.scale(alloc, -1) {
-        Ok(negated) => Ok(negated),
-        Err(PolyFail::NoMemory) => Err(AllocError),
-        Err(PolyFail::Big) => unreachable!(),
-    }
 }

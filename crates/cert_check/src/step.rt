@@ -5,7 +5,7 @@ ghost use Rattle.cert_check.specs.Checking.{Gives, EndsWith};
 use crate::fail::CheckFail;
 use crate::rows::Rows;
 use crate::walk::walk_through;
-use cert_kit::{PRow, Step, cut_row};
+use cert_kit::{PRow, Step};
 use std::alloc::Global;
 
 /// Appends the rows of the steps, in order.
@@ -27,8 +27,8 @@ fn row_of_step(alloc: Global, rows: &Rows<'_>, step: &Step) -> Result<PRow, Chec
     match step {
         Step::Rat(e) => Ok(walk_through(alloc, rows, e)?.into_inner().row),
         Step::Cut(e) => {
-            let node = walk_through(alloc, rows, e)?;
-            Ok(cut_row(alloc, &node.get().row)?)
+            let row = walk_through(alloc, rows, e)?.into_inner().row;
+            Ok(row.into_cut(alloc)?)
         }
     }
 }

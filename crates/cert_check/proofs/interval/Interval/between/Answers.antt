@@ -1,14 +1,13 @@
-use Rattle.std.proofs.Common.{◌≡◌, true, sym, ◌∙◌, ap, neg_ℤ, arith}
+use Rattle.std.proofs.Common.{◌≡◌, true, sym, ◌∙◌, arith}
 use Rattle.std.proofs.lemmas.Int.{ints}
-use Rattle.mm_poly.specs.Poly.{without_constant, constant_part}
-use Rattle.cert_kit.specs.Acceptance.{is_opposite}
+use Rattle.mm_poly.specs.Poly.{without_constant, is_opposite}
 use Rattle.cert_check.proofs.OppositeLaws.{range_room}
 use Rattle.cert_check.proofs.interval.Interval.between.Goals as goal
 
 pub invariant_of-interval : goal.invariant_of-interval
 invariant_of-interval c =
     let o : is_opposite (without_constant c.args.lower.now) (without_constant c.args.upper.now) ≡ true =
-    ap (λ p. is_opposite p (without_constant c.args.upper.now)) (sym c.in_ok-poly.ensures) ∙ sym c.are_opposite.ensures ∙ c.if-not-are_opposite.false in
+    sym c.has_opposite_unknowns.ensures ∙ c.if-not-has_opposite_unknowns.false in
     let a = c.constant_term.ensures.value in
     let s = c.constant_term.ensures.small in
     let b = c.constant_term-2.ensures.value in

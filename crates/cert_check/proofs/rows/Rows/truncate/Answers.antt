@@ -1,4 +1,4 @@
-use Rattle.std.proofs.Common.{◌≡◌, List, ◌++◌, take, ap, ◌∙◌}
+use Rattle.std.proofs.Common.{List, ◌++◌, take, ap, ◌∙◌}
 use Rattle.cert_kit.specs.declared.row.PRow.{PRow}
 use Rattle.cert_check.proofs.RowsLaws.{take_past}
 use Rattle.cert_check.proofs.rows.Rows.truncate.Goals as goal
