@@ -4,6 +4,9 @@ use Rattle.std.specs.Prelude.{◌&&◌, codes}
 use Rattle.std.specs.List.{flat_map, AllByRecursion}
 use Rattle.std.proofs.lemmas.Bool.{ltb-true, lt-ltb, and_parts, and_from}
 use Rattle.std.proofs.lemmas.List.{length-map}
+use Rattle.std.proofs.lemmas.Option.{same_Some}
+use Rattle.mm_num.specs.Option.{◌>>=◌}
+use Rattle.mm_num.proofs.OptionLaws.{bind_some, choice_some}
 use Rattle.mm_poly.specs.declared.term.Term.{Term}
 use Rattle.cert_kit.specs.declared.cert.Psatz.{Psatz}
 use Rattle.cert_kit.specs.declared.cert.Step.{Step}
@@ -15,13 +18,14 @@ use Rattle.cert_kit.specs.declared.cert.Close.TheViews.{roll-Close}
 use Rattle.cert_kit.specs.declared.cert.Close.TheVariants.{Done, Split, Enum, rolls-Done, rolls-Split, rolls-Enum}
 use Rattle.cert_kit.specs.declared.cert.Close.TheFolds.{map-Close, fold-roll-Close, fold_out-Cert, ind-Close}
 use Rattle.cert_kit.specs.Depth.{has_constants_in_range, step_depth, steps_depth, step_in_range, steps_in_range, deepest, all_in_range, close_level, close_in_range, close_depth, close_has_constants_in_range, cert_level, cert_in_range, cert_depth, cert_constants}
-use Rattle.cert_text.specs.Limits.{is_polynomial}
+use Rattle.mm_poly.specs.Tests.{is_polynomial}
 use Rattle.cert_text.specs.Text.{poly_text, psatz_text, step_text, more_members, close_spelling, cert_spelling, close_text, cert_text, cert_line}
 use Rattle.cert_text.specs.Check.{is_psatz_within, is_step_within, are_steps_within, close_level_within, cert_level_within, is_close_within, is_cert_within, IsCert}
 use Rattle.cert_text.specs.Place.{BeginsCert}
-use Rattle.cert_text.specs.Reading.{◌>>=◌, after, poly_at, pair_at, psatz_at, step_word_at, step_of, step_at, steps_at, done_at, split_at, members_at, enum_at, end_at, parts_at, cert_at, cert_line_at}
-use Rattle.cert_text.proofs.WordLaws.{some_is, bind_some, choice_some, after_takes}
-use Rattle.cert_text.proofs.LimitLaws.{AreTerms, terms_given, terms_from}
+use Rattle.cert_text.specs.Reading.{after, poly_at, pair_at, psatz_at, step_word_at, step_of, step_at, steps_at, done_at, split_at, members_at, enum_at, end_at, parts_at, cert_at, cert_line_at}
+use Rattle.cert_text.proofs.WordLaws.{after_takes}
+use Rattle.mm_poly.specs.Poly.{Fits}
+use Rattle.mm_poly.proofs.TestLaws.{fits_given, fits_from}
 use Rattle.cert_text.proofs.NumberLaws.{begins_digit}
 use Rattle.cert_text.proofs.ManyLaws.{AreTaken, AreRead, many_take, many_again}
 use Rattle.cert_text.proofs.RowLaws.{poly_takes, poly_again}
@@ -61,9 +65,9 @@ step_of_within d true e within = within
 word_takes : (bytes : List ℕ) (w : Bool × List ℕ) → step_word_at bytes ≡ Some w → bytes ≡ step_word w.0 ++ w.1
 word_takes bytes w e =
     elim (choice_some (after (codes "rat ") bytes) (λ r. Some (false, r)) (elim (after (codes "cut ") bytes) [ Some r ↦ Some (true, r) | None ↦ None ]) w e) [
-      | inl h ↦ subst (λ (w : Bool × List ℕ). bytes ≡ step_word w.0 ++ w.1) (some_is (false, h.0) w h.2) (after_takes (codes "rat ") bytes h.0 h.1)
+      | inl h ↦ subst (λ (w : Bool × List ℕ). bytes ≡ step_word w.0 ++ w.1) (same_Some (false, h.0) w h.2) (after_takes (codes "rat ") bytes h.0 h.1)
       | inr h ↦ elim (choice_some (after (codes "cut ") bytes) (λ r. Some (true, r)) None w h.1) [
-        | inl k ↦ subst (λ (w : Bool × List ℕ). bytes ≡ step_word w.0 ++ w.1) (some_is (true, k.0) w k.2) (after_takes (codes "cut ") bytes k.0 k.1)
+        | inl k ↦ subst (λ (w : Bool × List ℕ). bytes ≡ step_word w.0 ++ w.1) (same_Some (true, k.0) w k.2) (after_takes (codes "cut ") bytes k.0 k.1)
         | inr k ↦ absurd (let e = k.1 in cc)
       ]
     ]
@@ -76,7 +80,7 @@ step_takes d bytes w s rest marked read =
     let e = psatz_takes d w.1 a.0.0 a.0.1 a.1 in
     let text : bytes ≡ step_text (step_of w.0 a.0.0) ++ b.0 =
     word_takes bytes w marked ∙ ap (λ t. step_word w.0 ++ t) (e.text ∙ ap (λ t. psatz_text a.0.0 ++ t) (after_takes (codes "; ") a.0.1 b.0 b.1)) ∙ sym (step_of_text w.0 a.0.0 b.0) in
-    subst (λ (p : Step × List ℕ). (bytes ≡ step_text p.0 ++ p.1) × StepWithin d p.0) (some_is (step_of w.0 a.0.0, b.0) (s, rest) b.2) (text, step_of_within d w.0 a.0.0 e.within)
+    subst (λ (p : Step × List ℕ). (bytes ≡ step_text p.0 ++ p.1) × StepWithin d p.0) (same_Some (step_of w.0 a.0.0, b.0) (s, rest) b.2) (text, step_of_within d w.0 a.0.0 e.within)
 
 steps_taken : (d : ℕ) → AreTaken step_word_at (step_at d) step_text (StepWithin d)
 steps_taken d = record { takes = step_takes d }
@@ -209,17 +213,17 @@ made d bytes y k rest is text within =
 done_takes : (d : ℕ) (bytes : List ℕ) (k : Close) (rest : List ℕ) → done_at bytes ≡ Some (k, rest) → TakesClose d bytes k rest
 done_takes d bytes k rest read =
     let a = bind_some (after (codes "done") bytes) (λ r. Some (Done, r)) (k, rest) read in
-    subst (λ (p : Close × List ℕ). TakesClose d bytes p.0 p.1) (some_is (Done, a.0) (k, rest) a.2)
+    subst (λ (p : Close × List ℕ). TakesClose d bytes p.0 p.1) (same_Some (Done, a.0) (k, rest) a.2)
     (made d bytes Close-F.Done Done a.0 rolls-Done (after_takes (codes "done") bytes a.0 a.1) (record { flat = omega arith; in_range = refl; inside = refl }))
 
 abbrev Takes : ℕ → Type 0
 Takes d = (bytes : List ℕ) (c : Cert) (rest : List ℕ) → cert_at d bytes ≡ Some (c, rest) → TakesCert d bytes c rest
 
-split_within : (d : ℕ) (p : List Term) (c e : Cert) → AreTerms p → CertWithin d c → CertWithin d e → LevelWithin (suc d) (Close-F.Split p c e)
+split_within : (d : ℕ) (p : List Term) (c e : Cert) → Fits p → CertWithin d c → CertWithin d e → LevelWithin (suc d) (Close-F.Split p c e)
 split_within d p c e are first second =
     let both = deeper d (max (cert_depth c) (cert_depth e)) (cert_constants c && cert_constants e) (is_cert_within c && is_cert_within e)
     (beside d (cert_depth c) (cert_depth e) (cert_constants c) (cert_constants e) (is_cert_within c) (is_cert_within e) first second) in
-    record { flat = both.flat; in_range = both.in_range; inside = and_from (is_polynomial p) (is_cert_within c && is_cert_within e) (terms_from p are) both.inside }
+    record { flat = both.flat; in_range = both.in_range; inside = and_from (is_polynomial p) (is_cert_within c && is_cert_within e) (fits_from p are) both.inside }
 
 split_takes : (d : ℕ) → Takes d → (bytes line : List ℕ) (k : Close) (rest : List ℕ) → bytes ≡ codes "split(" ++ line → split_at (cert_at d) line ≡ Some (k, rest) → TakesClose (suc d) bytes k rest
 split_takes d takes bytes line k rest opens read =
@@ -236,8 +240,8 @@ split_takes d takes bytes line k rest opens read =
     let from_first : b.0 ≡ cert_text c.0.0 ++ (codes ", " ++ (cert_text e.0.0 ++ (codes ")" ++ z.0))) = first.text ∙ ap (λ t. cert_text c.0.0 ++ t) (after_takes (codes ", ") c.0.1 s.0 s.1 ∙ ap (λ t. codes ", " ++ t) from_second) in
     let text : bytes ≡ spelled (Close-F.Split a.0.0 c.0.0 e.0.0) ++ z.0 =
     opens ∙ ap (λ t. codes "split(" ++ t) (p.text ∙ ap (λ t. poly_text a.0.0 ++ t) (after_takes (codes ", ") a.0.1 b.0 b.1 ∙ ap (λ t. codes ", " ++ t) from_first) ∙ sym (three_on (poly_text a.0.0) (cert_text c.0.0) (cert_text e.0.0) z.0)) in
-    subst (λ (q : Close × List ℕ). TakesClose (suc d) bytes q.0 q.1) (some_is (Split a.0.0 c.0.0 e.0.0, z.0) (k, rest) z.2)
-    (made (suc d) bytes (Close-F.Split a.0.0 c.0.0 e.0.0) (Split a.0.0 c.0.0 e.0.0) z.0 (rolls-Split a.0.0 c.0.0 e.0.0) text (split_within d a.0.0 c.0.0 e.0.0 p.are first.within second.within))
+    subst (λ (q : Close × List ℕ). TakesClose (suc d) bytes q.0 q.1) (same_Some (Split a.0.0 c.0.0 e.0.0, z.0) (k, rest) z.2)
+    (made (suc d) bytes (Close-F.Split a.0.0 c.0.0 e.0.0) (Split a.0.0 c.0.0 e.0.0) z.0 (rolls-Split a.0.0 c.0.0 e.0.0) text (split_within d a.0.0 c.0.0 e.0.0 p.fits first.within second.within))
 
 members_taken : (d : ℕ) → Takes d → AreTaken (after (codes ", ")) (cert_at d) next_member (CertWithin d)
 members_taken d takes = record { takes = λ bytes m c rest marked read. let t = takes m c rest read in (after_takes (codes ", ") bytes m marked ∙ ap (λ b. codes ", " ++ b) t.text, t.within) }
@@ -268,7 +272,7 @@ enum_takes d takes bytes line k rest opens read =
     let text : bytes ≡ spelled (Close-F.Enum a.0.0.0 a.0.0.1 b.0.0) ++ z.0 =
     opens ∙ ap (λ t. codes "enum(" ++ t) (p.text ∙ ap (λ t. psatz_text a.0.0.0 ++ (codes ", " ++ (psatz_text a.0.0.1 ++ t))) (m.0 ∙ flat)
     ∙ sym (members_on (psatz_text a.0.0.0) (psatz_text a.0.0.1) (more_members (map cert_text b.0.0)) z.0)) in
-    subst (λ (q : Close × List ℕ). TakesClose (suc d) bytes q.0 q.1) (some_is (Enum a.0.0.0 a.0.0.1 b.0.0, z.0) (k, rest) z.2)
+    subst (λ (q : Close × List ℕ). TakesClose (suc d) bytes q.0 q.1) (same_Some (Enum a.0.0.0 a.0.0.1 b.0.0, z.0) (k, rest) z.2)
     (made (suc d) bytes (Close-F.Enum a.0.0.0 a.0.0.1 b.0.0) (Enum a.0.0.0 a.0.0.1 b.0.0) z.0 (rolls-Enum a.0.0.0 a.0.0.1 b.0.0) text
     (enum_within d a.0.0.0 a.0.0.1 b.0.0 p.first p.second (omega (arith, m.2)) (members_from d b.0.0 m.1)))
 
@@ -292,7 +296,7 @@ parts_take d close close_takes bytes c rest read =
     let k = close_takes a.0.1 b.0.0 b.0.1 b.1 in
     let whole : Cert = record { steps = a.0.0; close = b.0.0 } in
     let text : bytes ≡ cert_text whole ++ b.0.1 = s.0 ∙ ap (λ t. flat_map step_text a.0.0 ++ t) k.text ∙ sym (cert_on whole b.0.1) in
-    subst (λ (p : Cert × List ℕ). TakesCert d bytes p.0 p.1) (some_is (whole, b.0.1) (c, rest) b.2) (record { text = text; within = cert_from d whole (steps_from d a.0.0 s.1) k.within })
+    subst (λ (p : Cert × List ℕ). TakesCert d bytes p.0 p.1) (same_Some (whole, b.0.1) (c, rest) b.2) (record { text = text; within = cert_from d whole (steps_from d a.0.0 s.1) k.within })
 
 pub cert_takes : (d : ℕ) → Takes d
 unfolding cert_at
@@ -339,7 +343,7 @@ done_ends : (d : ℕ) (rest : List ℕ) → end_at (psatz_at d) (cert_at d) (cod
 unfolding end_at
 done_ends d rest = refl
 
-split_read : (d : ℕ) → Reads d → (p : List Term) (c e : Cert) (rest : List ℕ) → AreTerms p → CertWithin d c → CertWithin d e
+split_read : (d : ℕ) → Reads d → (p : List Term) (c e : Cert) (rest : List ℕ) → Fits p → CertWithin d c → CertWithin d e
     → end_at (psatz_at d) (cert_at d) (codes "split(" ++ (poly_text p ++ (codes ", " ++ (cert_text c ++ (codes ", " ++ (cert_text e ++ (codes ")" ++ rest))))))) ≡ Some (Split p c e, rest)
 unfolding end_at
 split_read d reads p c e rest are first second =
@@ -377,7 +381,7 @@ level_deep d reads (Close-F.Split p c e) rest w =
     let each = apart d (cert_depth c) (cert_depth e) (cert_constants c) (cert_constants e) (is_cert_within c) (is_cert_within e)
     (part_of d (max (cert_depth c) (cert_depth e)) (cert_constants c && cert_constants e) (is_cert_within c && is_cert_within e) both) in
     ap (λ t. end_at (psatz_at d) (cert_at d) (codes "split(" ++ t)) (three_on (poly_text p) (cert_text c) (cert_text e) rest)
-    ∙ split_read d reads p c e rest (terms_given p parts.0) each.0 each.1 ∙ ap (λ k. Some (k, rest)) (sym (rolls-Split p c e))
+    ∙ split_read d reads p c e rest (fits_given p parts.0) each.0 each.1 ∙ ap (λ k. Some (k, rest)) (sym (rolls-Split p c e))
 level_deep d reads (Close-F.Enum e f cs) rest w =
     let x = w.flat in
     let range = and_parts (has_constants_in_range e) (has_constants_in_range f && all_in_range (map cert_constants cs)) w.in_range in
@@ -425,7 +429,7 @@ cert_line_takes bytes c rest read =
     let t = cert_takes 4096 w.0 a.0.0 a.0.1 a.1 in
     let within = t.within in
     let text : bytes ≡ cert_line a.0.0 ++ b.0 = after_takes (codes "cert ") bytes w.0 w.1 ∙ ap (λ t. codes "cert " ++ t) (t.text ∙ ap (λ t. cert_text a.0.0 ++ t) (after_takes (10 ∷ []) a.0.1 b.0 b.1)) ∙ sym (line_on a.0.0 b.0) in
-    subst (λ (p : Cert × List ℕ). (bytes ≡ cert_line p.0 ++ p.1) × IsCert p.0) (some_is (a.0.0, b.0) (c, rest) b.2) (text, record { depth = within.flat; constants = within.in_range; parts = within.inside })
+    subst (λ (p : Cert × List ℕ). (bytes ≡ cert_line p.0 ++ p.1) × IsCert p.0) (same_Some (a.0.0, b.0) (c, rest) b.2) (text, record { depth = within.flat; constants = within.in_range; parts = within.inside })
 
 pub cert_line_again : (c : Cert) (rest : List ℕ) → IsCert c → cert_line_at (cert_line c ++ rest) ≡ Some (c, rest)
 unfolding cert_line_at

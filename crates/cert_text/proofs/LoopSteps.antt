@@ -1,10 +1,11 @@
 -- Reading items one after the other, as a loop does.
 use Rattle.std.proofs.Common.{◌≡◌, ℕ, zero, suc, ◌-◌, ◌+◌, ◌≤◌, ◌<◌, List, [], ◌∷◌, ◌++◌, Option, Some, None, refl, sym, ap, ◌∙◌, append_assoc, arith}
 use Rattle.std.proofs.lemmas.List.{append-nil}
+use Rattle.mm_num.specs.Option.{◌>>=◌}
 use Rattle.cert_text.specs.declared.fail.TextFail.{TextFail}
 use Rattle.cert_text.specs.declared.fail.TextFail.TheVariants.{Bad, NoMemory}
 use Rattle.cert_kit.specs.declared.row.PRow.{PRow}
-use Rattle.cert_text.specs.Reading.{◌>>=◌, Fails, many_at, row_at, rows_at}
+use Rattle.cert_text.specs.Reading.{Fails, many_at, row_at, rows_at}
 
 -- what was read before, and what is still read
 abbrev pub with_front : {X : Type 0} → List X → Option (List X × List ℕ) → Option (List X × List ℕ)

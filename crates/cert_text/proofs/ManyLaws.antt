@@ -1,8 +1,11 @@
 -- Items, one after the other: what is read is spelled so, and what is spelled so is read.
 use Rattle.std.proofs.Common.{◌≡◌, ℕ, zero, suc, ◌≤◌, inl, inr, List, [], ◌∷◌, ◌++◌, length, Option, Some, None, refl, sym, ap, subst, ◌∙◌, append_assoc, arith}
 use Rattle.std.specs.List.{flat_map, AllByRecursion}
-use Rattle.cert_text.specs.Reading.{◌>>=◌, many_at}
-use Rattle.cert_text.proofs.WordLaws.{some_is, bind_some, choice_some, joined}
+use Rattle.std.proofs.lemmas.Option.{same_Some}
+use Rattle.mm_num.specs.Option.{◌>>=◌}
+use Rattle.mm_num.proofs.OptionLaws.{bind_some, choice_some}
+use Rattle.cert_text.specs.Reading.{many_at}
+use Rattle.cert_text.proofs.WordLaws.{joined}
 
 -- a mark and the item after it are spelled so
 pub record AreTaken {M X : Type 0} (mark : List ℕ → Option M) (item : M → Option (X × List ℕ)) (text : X → List ℕ) (Good : X → Type 0) : Type 0 where
@@ -12,7 +15,7 @@ pub many_take : {M X : Type 0} (mark : List ℕ → Option M) (item : M → Opti
     → (n : ℕ) (bytes : List ℕ) (xs : List X) (rest : List ℕ) → many_at mark item n bytes ≡ Some (xs, rest) → (bytes ≡ flat_map text xs ++ rest) × AllByRecursion Good xs × (length xs ≤ n)
 unfolding many_at
 many_take {M} {X} mark item text Good are zero bytes xs rest e =
-    subst (λ (p : List X × List ℕ). (bytes ≡ flat_map text p.0 ++ p.1) × AllByRecursion Good p.0 × (length p.0 ≤ 0)) (some_is ([], bytes) (xs, rest) e) (refl, tt, omega arith)
+    subst (λ (p : List X × List ℕ). (bytes ≡ flat_map text p.0 ++ p.1) × AllByRecursion Good p.0 × (length p.0 ≤ 0)) (same_Some ([], bytes) (xs, rest) e) (refl, tt, omega arith)
 many_take {M} {X} mark item text Good are (suc n) bytes xs rest e =
     elim (choice_some (mark bytes) (λ m. item m >>= λ first. many_at mark item n first.1 >>= λ others. Some (first.0 ∷ others.0, others.1)) (Some ([], bytes)) (xs, rest) e) [
       | inl h ↦
@@ -21,10 +24,10 @@ many_take {M} {X} mark item text Good are (suc n) bytes xs rest e =
           let first = are.takes bytes h.0 a.0.0 a.0.1 h.1 a.1 in
           let others = many_take mark item text Good are n a.0.1 b.0.0 b.0.1 b.1 in
           let whole : bytes ≡ flat_map text (a.0.0 ∷ b.0.0) ++ b.0.1 = joined bytes (text a.0.0) a.0.1 (flat_map text b.0.0) b.0.1 first.0 others.0 in
-          subst (λ (p : List X × List ℕ). (bytes ≡ flat_map text p.0 ++ p.1) × AllByRecursion Good p.0 × (length p.0 ≤ suc n)) (some_is (a.0.0 ∷ b.0.0, b.0.1) (xs, rest) b.2)
+          subst (λ (p : List X × List ℕ). (bytes ≡ flat_map text p.0 ++ p.1) × AllByRecursion Good p.0 × (length p.0 ≤ suc n)) (same_Some (a.0.0 ∷ b.0.0, b.0.1) (xs, rest) b.2)
           (whole, (first.1, others.1), omega (arith, others.2))
       | inr h ↦
-          subst (λ (p : List X × List ℕ). (bytes ≡ flat_map text p.0 ++ p.1) × AllByRecursion Good p.0 × (length p.0 ≤ suc n)) (some_is ([], bytes) (xs, rest) h.1) (refl, tt, omega arith)
+          subst (λ (p : List X × List ℕ). (bytes ≡ flat_map text p.0 ++ p.1) × AllByRecursion Good p.0 × (length p.0 ≤ suc n)) (same_Some ([], bytes) (xs, rest) h.1) (refl, tt, omega arith)
     ]
 
 -- a mark and an item that are spelled so are read, where what follows may stand there

@@ -3,14 +3,17 @@ use Rattle.std.proofs.Common.{◌≡◌, ℕ, ◌^◌, ◌<◌, ◌≤◌, Bool,
 use Rattle.std.specs.Prelude.{◌&&◌, not, decimal, codes}
 use Rattle.std.specs.List.{flat_map, AllByRecursion}
 use Rattle.std.proofs.lemmas.Bool.{ne_eqb, cases_eq, and_parts}
-use Rattle.mm_poly.specs.Mono.{IsMono, IsMonomial, mono_degree}
+use Rattle.std.proofs.lemmas.Option.{same_Some}
+use Rattle.mm_num.specs.Option.{◌>>=◌}
+use Rattle.mm_num.proofs.OptionLaws.{bind_some, choice_some}
+use Rattle.mm_poly.specs.Mono.{IsMono, IsMonomial, VarsBelow, mono_degree}
 use Rattle.cert_text.specs.Text.{factor_text, more_factors}
-use Rattle.cert_text.specs.Check.{HaveRoom}
-use Rattle.cert_text.specs.Limits.{is_monomial}
-use Rattle.cert_text.specs.Reading.{◌>>=◌, after, is_digit, number_at, positive_at, exponent_at, factor_at, more_factors_at, factors_at, rising, monomial_at}
-use Rattle.cert_text.proofs.WordLaws.{some_is, bind_some, guard_some, guard_none, choice_some, after_takes}
+use Rattle.mm_poly.specs.Tests.{is_monomial}
+use Rattle.cert_text.specs.Reading.{after, is_digit, number_at, positive_at, exponent_at, factor_at, more_factors_at, factors_at, rising, monomial_at}
+use Rattle.cert_text.proofs.WordLaws.{guard_some, guard_none, after_takes}
 use Rattle.cert_text.proofs.NumberLaws.{IsLimit, room, positive_takes, number_takes, positive_again, number_again, begins_digit}
-use Rattle.cert_text.proofs.LimitLaws.{monomial_given, monomial_from}
+use Rattle.mm_poly.proofs.TestLaws.{monomial_given, monomial_from}
+use Rattle.mm_poly.proofs.MonoLaws.{length_below}
 use Rattle.cert_text.proofs.ManyLaws.{AreTaken, AreRead, many_take, many_again, many_follow}
 
 -- ---- what may follow
@@ -76,8 +79,8 @@ exponent_takes bytes e rest read =
           let g = guard_none (eqb a.0.0 1) (Some (a.0.0, a.0.1)) (e, rest) a.2 in
           let number = n.0 in
           let text : bytes ≡ power_text a.0.0 ++ a.0.1 = after_takes (codes "^") bytes h.0 h.1 ∙ ap (λ t. codes "^" ++ t) number.text ∙ sym (power_written a.0.0 a.0.1 g.0) in
-          subst (λ (p : ℕ × List ℕ). TakesPower bytes p.0 p.1) (some_is (a.0.0, a.0.1) (e, rest) g.1) (record { text = text; positive = n.1; small = number.below })
-      | inr h ↦ subst (λ (p : ℕ × List ℕ). TakesPower bytes p.0 p.1) (some_is (1, bytes) (e, rest) h.1) (record { text = refl; positive = omega arith; small = omega arith })
+          subst (λ (p : ℕ × List ℕ). TakesPower bytes p.0 p.1) (same_Some (a.0.0, a.0.1) (e, rest) g.1) (record { text = text; positive = n.1; small = number.below })
+      | inr h ↦ subst (λ (p : ℕ × List ℕ). TakesPower bytes p.0 p.1) (same_Some (1, bytes) (e, rest) h.1) (record { text = refl; positive = omega arith; small = omega arith })
     ]
 
 exponent_again : (e : ℕ) (rest : List ℕ) → 1 ≤ e → e < 256 → ends_factor rest ≡ true → exponent_at (power_text e ++ rest) ≡ Some (e, rest)
@@ -114,7 +117,7 @@ factor_takes bytes f rest read =
     let v = number_takes (2 ^ 32) bytes a.0.0 a.0.1 room a.1 in
     let e = exponent_takes a.0.1 b.0.0 b.0.1 b.1 in
     let text : codes "x" ++ bytes ≡ factor_text (a.0.0, b.0.0) ++ b.0.1 = ap (λ t. 120 ∷ t) (v.text ∙ ap (λ t. decimal a.0.0 ++ t) e.text) ∙ sym (factor_text_on (a.0.0, b.0.0) b.0.1) in
-    subst (λ (p : (ℕ × ℕ) × List ℕ). (codes "x" ++ bytes ≡ factor_text p.0 ++ p.1) × IsFactor p.0) (some_is ((a.0.0, b.0.0), b.0.1) (f, rest) b.2)
+    subst (λ (p : (ℕ × ℕ) × List ℕ). (codes "x" ++ bytes ≡ factor_text p.0 ++ p.1) × IsFactor p.0) (same_Some ((a.0.0, b.0.0), b.0.1) (f, rest) b.2)
     (text, record { positive = e.positive; small = e.small; room = v.below })
 
 factor_again : (f : ℕ × ℕ) (rest : List ℕ) → IsFactor f → ends_factor rest ≡ true → factor_at (decimal f.0 ++ (power_text f.1 ++ rest)) ≡ Some (f, rest)
@@ -151,18 +154,9 @@ factors_read = record {
 
 -- ---- monomials
 
-room_of : (fs : List (ℕ × ℕ)) → AllByRecursion IsFactor fs → HaveRoom fs
-room_of [] are = tt
-room_of (f ∷ fs) are = let one = are.0 in (one.room, room_of fs are.1)
-
-factors_of : (fs : List (ℕ × ℕ)) → IsMono fs → mono_degree fs ≤ 255 → HaveRoom fs → AllByRecursion IsFactor fs
+factors_of : (fs : List (ℕ × ℕ)) → IsMono fs → mono_degree fs ≤ 255 → VarsBelow (2 ^ 32) fs → AllByRecursion IsFactor fs
 factors_of [] order flat room = tt
 factors_of (f ∷ fs) order flat room = (record { positive = order.0; small = omega arith; room = room.0 }, factors_of fs order.2 (omega arith) room.1)
-
--- there are no more factors than the exponents sum to
-length_le_degree : (fs : List (ℕ × ℕ)) → IsMono fs → length fs ≤ mono_degree fs
-length_le_degree [] order = omega arith
-length_le_degree (f ∷ fs) order = omega (arith, order.0, length_le_degree fs order.2)
 
 -- factors after their first x, nested to the right
 abbrev pub factors_on : ℕ × ℕ → List (ℕ × ℕ) → List ℕ → List ℕ
@@ -179,7 +173,6 @@ pub record TakesMonomial (bytes : List ℕ) (m : List (ℕ × ℕ)) (rest : List
   pub is : first ∷ others ≡ m
   pub text : codes "x" ++ bytes ≡ (factor_text first ++ more_factors others) ++ rest
   pub good : IsMonomial m
-  pub room : HaveRoom m
 
 factors_take : (bytes : List ℕ) (fs : List (ℕ × ℕ)) (rest : List ℕ) → factors_at bytes ≡ Some (fs, rest) → IsMonomial fs → TakesMonomial bytes fs rest
 unfolding factors_at
@@ -191,8 +184,8 @@ factors_take bytes fs rest e =
     let flat : flat_map next_factor b.0.0 ++ b.0.1 ≡ more_factors b.0.0 ++ b.0.1 = ap (λ t. t ++ b.0.1) (sym (more_factors-flat b.0.0)) in
     let text : codes "x" ++ bytes ≡ (factor_text a.0.0 ++ more_factors b.0.0) ++ b.0.1 =
     first.0 ∙ ap (λ t. factor_text a.0.0 ++ t) (others.0 ∙ flat) ∙ sym (append_assoc (factor_text a.0.0) (more_factors b.0.0) b.0.1) in
-    subst (λ (p : List (ℕ × ℕ) × List ℕ). IsMonomial p.0 → TakesMonomial bytes p.0 p.1) (some_is (a.0.0 ∷ b.0.0, b.0.1) (fs, rest) b.2)
-    (λ good. record { first = a.0.0; others = b.0.0; is = refl; text = text; good = good; room = room_of (a.0.0 ∷ b.0.0) (first.1, others.1) })
+    subst (λ (p : List (ℕ × ℕ) × List ℕ). IsMonomial p.0 → TakesMonomial bytes p.0 p.1) (same_Some (a.0.0 ∷ b.0.0, b.0.1) (fs, rest) b.2)
+    (λ good. record { first = a.0.0; others = b.0.0; is = refl; text = text; good = good })
 
 pub monomial_takes : (bytes : List ℕ) (m : List (ℕ × ℕ)) (rest : List ℕ) → monomial_at bytes ≡ Some (m, rest) → TakesMonomial bytes m rest
 unfolding monomial_at
@@ -200,8 +193,8 @@ monomial_takes bytes m rest e =
     let a = bind_some (factors_at bytes) (λ factors. rising factors.0 >>= λ m. Some (m, factors.1)) (m, rest) e in
     let b = bind_some (rising a.0.0) (λ m. Some (m, a.0.1)) (m, rest) a.2 in
     let g = guard_some (is_monomial a.0.0) (Some a.0.0) b.0 b.1 in
-    let same : a.0.0 ≡ b.0 = some_is a.0.0 b.0 g.1 in
-    subst (λ (p : List (ℕ × ℕ) × List ℕ). TakesMonomial bytes p.0 p.1) (ap (λ p. (p, a.0.1)) same ∙ some_is (b.0, a.0.1) (m, rest) b.2)
+    let same : a.0.0 ≡ b.0 = same_Some a.0.0 b.0 g.1 in
+    subst (λ (p : List (ℕ × ℕ) × List ℕ). TakesMonomial bytes p.0 p.1) (ap (λ p. (p, a.0.1)) same ∙ same_Some (b.0, a.0.1) (m, rest) b.2)
     (factors_take bytes a.0.0 a.0.1 a.1 (monomial_given a.0.0 g.0))
 
 factors_again : (f : ℕ × ℕ) (fs : List (ℕ × ℕ)) (rest : List ℕ) → AllByRecursion IsFactor (f ∷ fs) → length fs ≤ 255 → ends_term rest ≡ true → factors_at (factors_on f fs rest) ≡ Some (f ∷ fs, rest)
@@ -213,11 +206,12 @@ factors_again f fs rest are few ends =
     let first = factor_again f (flat_map next_factor fs ++ rest) are.0 go_on in
     rw first (rw others refl)
 
-pub monomial_again : (f : ℕ × ℕ) (fs : List (ℕ × ℕ)) (rest : List ℕ) → IsMonomial (f ∷ fs) → HaveRoom (f ∷ fs) → ends_term rest ≡ true → monomial_at (factors_on f fs rest) ≡ Some (f ∷ fs, rest)
+pub monomial_again : (f : ℕ × ℕ) (fs : List (ℕ × ℕ)) (rest : List ℕ) → IsMonomial (f ∷ fs) → ends_term rest ≡ true → monomial_at (factors_on f fs rest) ≡ Some (f ∷ fs, rest)
 unfolding monomial_at
-monomial_again f fs rest good room ends =
+monomial_again f fs rest good ends =
     let order = good.order in
     let flat = good.degree in
-    let few : length fs ≤ 255 = omega (arith, length_le_degree fs order.2) in
+    let room = good.room in
+    let few : length fs ≤ 255 = omega (arith, length_below fs order.2) in
     let read = factors_again f fs rest (factors_of (f ∷ fs) order flat room) few ends in
     rw read (rw (monomial_from (f ∷ fs) good) refl)

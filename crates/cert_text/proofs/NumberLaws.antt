@@ -3,8 +3,10 @@ use Rattle.std.proofs.Common.{◌≡◌, ℕ, zero, suc, ◌+◌, ◌-◌, ◌*�
 use Rattle.std.specs.Prelude.{◌&&◌, decimal, codes}
 use Rattle.std.proofs.lemmas.Bool.{ltb-true, leb-true, lt-ltb, le-leb, ne_eqb, and_parts, and_from}
 use Rattle.std.proofs.lemmas.Fmt.{decimal_digit, decimal_step_wide, decimal_by_steps_wide}
+use Rattle.std.proofs.lemmas.Option.{same_Some}
+use Rattle.mm_num.proofs.OptionLaws.{choice_some, test_some}
 use Rattle.cert_text.specs.Reading.{after, is_digit, digits_at, positive_at, number_at}
-use Rattle.cert_text.proofs.WordLaws.{some_is, guard_some, test_some, choice_some, after_takes}
+use Rattle.cert_text.proofs.WordLaws.{guard_some, after_takes}
 
 -- what is read of a number below a limit, and what it leaves
 pub record TakesNumber (limit : ℕ) (bytes : List ℕ) (n : ℕ) (rest : List ℕ) : Type 0 where
@@ -33,7 +35,7 @@ digits_take : (limit value : ℕ) (bytes : List ℕ) (n : ℕ) (rest : List ℕ)
     → (decimal value ++ bytes ≡ decimal n ++ rest) × (n < limit) × (0 < n)
 unfolding digits_at
 digits_take limit value [] n rest small pos lt e =
-    let p = some_is (value, []) (n, rest) e in
+    let p = same_Some (value, []) (n, rest) e in
     subst (λ (p : ℕ × List ℕ). (decimal value ++ [] ≡ decimal p.0 ++ p.1) × (p.0 < limit) × (0 < p.0)) p (refl, lt, pos)
 digits_take limit value (c ∷ bytes) n rest small pos lt e =
     let next = 10 * value + (c - 48) in
@@ -50,7 +52,7 @@ digits_take limit value (c ∷ bytes) n rest small pos lt e =
           let whole : decimal next ++ bytes ≡ decimal value ++ c ∷ bytes = ap (λ t. t ++ bytes) more ∙ append_assoc (decimal value) (c ∷ []) bytes in
           (sym whole ∙ taken.0, taken.1, taken.2)
       | inr h ↦
-          let p = some_is (value, c ∷ bytes) (n, rest) h.1 in
+          let p = same_Some (value, c ∷ bytes) (n, rest) h.1 in
           subst (λ (p : ℕ × List ℕ). (decimal value ++ c ∷ bytes ≡ decimal p.0 ++ p.1) × (p.0 < limit) × (0 < p.0)) p (refl, lt, pos)
     ]
 
@@ -72,7 +74,7 @@ unfolding number_at
 number_takes limit bytes n rest is e =
     elim (choice_some (after (codes "0") bytes) (λ t. Some (0, t)) (positive_at limit bytes) (n, rest) e) [
       | inl h ↦
-          let p = some_is (0, h.0) (n, rest) h.2 in
+          let p = same_Some (0, h.0) (n, rest) h.2 in
           let zero_text : decimal 0 ≡ 48 ∷ [] = decimal_digit 0 (omega arith) in
           let text : bytes ≡ decimal 0 ++ h.0 = after_takes (codes "0") bytes h.0 h.1 ∙ sym (ap (λ t. t ++ h.0) zero_text) in
           let above = is.above in

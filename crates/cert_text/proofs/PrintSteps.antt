@@ -1,14 +1,14 @@
 -- Items that are appended one by one.
 use Rattle.std.proofs.Common.{◌≡◌, ℕ, zero, suc, ◌+◌, ◌≤◌, List, [], ◌∷◌, ◌++◌, length, drop, Some, refl, sym, ap, ◌∙◌, append_assoc, arith}
 use Rattle.std.specs.Prelude.{codes, slice_get, unsigned_abs}
+use Rattle.std.proofs.lemmas.Option.{same_Some}
 use Rattle.mm_poly.specs.declared.term.Term.{Term}
 use Rattle.cert_text.specs.Text.{factor_text, more_factors, next_sign, term_text, more_terms}
-use Rattle.cert_text.proofs.WordLaws.{some_is}
 
 -- the item at a place begins what is left there
 drop_at : {A : Type 0} (n : ℕ) (xs : List A) (x : A) → slice_get xs n ≡ Some x → drop n xs ≡ x ∷ drop (n + 1) xs
 drop_at n [] x e = absurd cc
-drop_at zero (y ∷ xs) x e = ap (λ z. z ∷ xs) (some_is y x e)
+drop_at zero (y ∷ xs) x e = ap (λ z. z ∷ xs) (same_Some y x e)
 drop_at (suc n) (y ∷ xs) x e = let k : suc (n + 1) ≡ suc n + 1 = omega arith in drop_at n xs x e ∙ ap (λ m. x ∷ drop m (y ∷ xs)) k
 
 pub nothing_left : {A : Type 0} (n : ℕ) (xs : List A) → length xs ≤ n → drop n xs ≡ []

@@ -2,19 +2,23 @@
 use Rattle.std.proofs.Common.{◌≡◌, ℕ, zero, suc, ◌+◌, ◌^◌, ◌<◌, ◌≤◌, max, Bool, true, false, ltb, inl, inr, List, ◌++◌, Some, None, refl, sym, ap, subst, ◌∙◌, append_assoc, arith}
 use Rattle.std.specs.Prelude.{◌&&◌, ℤ, pos, negsuc, int_le, codes, decimal}
 use Rattle.std.proofs.lemmas.Bool.{ltb-true, leb-true, lt-ltb, le-leb, and_parts, and_from}
+use Rattle.std.proofs.lemmas.Option.{same_Some}
+use Rattle.mm_num.specs.Option.{◌>>=◌}
+use Rattle.mm_num.proofs.OptionLaws.{bind_some, choice_some}
 use Rattle.mm_poly.specs.declared.term.Term.{Term}
 use Rattle.cert_kit.specs.declared.cert.Psatz.{Psatz, roll-Psatz, map-Psatz}
 use Rattle.cert_kit.specs.declared.cert.Psatz.TheOpen.{Psatz-F}
 use Rattle.cert_kit.specs.declared.cert.Psatz.TheVariants.{Hyp, Square, MulPoly, Mul, Add, Const, Zero, rolls-Hyp, rolls-Square, rolls-MulPoly, rolls-Mul, rolls-Add, rolls-Const, rolls-Zero}
 use Rattle.cert_kit.specs.declared.cert.Psatz.TheFolds.{fold-roll-Psatz, ind-Psatz}
 use Rattle.cert_kit.specs.Depth.{psatz_depth, psatz_level, has_constants_in_range, psatz_in_range, is_constant_in_range}
-use Rattle.cert_text.specs.Limits.{is_polynomial}
+use Rattle.mm_poly.specs.Tests.{is_polynomial}
 use Rattle.cert_text.specs.Text.{poly_text, psatz_text, psatz_spelling}
 use Rattle.cert_text.specs.Check.{is_psatz_within, psatz_level_within}
-use Rattle.cert_text.specs.Reading.{◌>>=◌, after, number_at, positive_at, poly_at, hyp_at, const_at, leaf_at, square_at, mulp_at, pair_at, of_pair_at, node_at, psatz_at}
-use Rattle.cert_text.proofs.WordLaws.{some_is, bind_some, choice_some, after_takes}
+use Rattle.cert_text.specs.Reading.{after, number_at, positive_at, poly_at, hyp_at, const_at, leaf_at, square_at, mulp_at, pair_at, of_pair_at, node_at, psatz_at}
+use Rattle.cert_text.proofs.WordLaws.{after_takes}
 use Rattle.cert_text.proofs.NumberLaws.{room, small, number_takes, number_again, positive_takes, positive_again, begins_digit}
-use Rattle.cert_text.proofs.LimitLaws.{AreTerms, terms_given, terms_from}
+use Rattle.mm_poly.specs.Poly.{Fits}
+use Rattle.mm_poly.proofs.TestLaws.{fits_given, fits_from}
 use Rattle.cert_text.proofs.RowLaws.{poly_takes, poly_again}
 
 -- ---- the limits, level by level
@@ -92,7 +96,7 @@ hyp_takes d bytes line e rest opens read =
     let b = bind_some (number_at (2 ^ 32) line) (λ n. Some (Hyp n.0, n.1)) (e, rest) read in
     let n = number_takes (2 ^ 32) line b.0.0 b.0.1 room b.1 in
     let text : bytes ≡ spelled (Psatz-F.Hyp b.0.0) ++ b.0.1 = opens ∙ ap (λ t. codes "in " ++ t) n.text in
-    subst (λ (p : Psatz × List ℕ). TakesPsatz d bytes p.0 p.1) (some_is (Hyp b.0.0, b.0.1) (e, rest) b.2)
+    subst (λ (p : Psatz × List ℕ). TakesPsatz d bytes p.0 p.1) (same_Some (Hyp b.0.0, b.0.1) (e, rest) b.2)
     (made d bytes (Psatz-F.Hyp b.0.0) (Hyp b.0.0) b.0.1 (rolls-Hyp b.0.0) text (record { flat = omega arith; in_range = refl; inside = lt-ltb b.0.0 (2 ^ 32) n.below }))
 
 const_takes : (d : ℕ) (bytes line : List ℕ) (e : Psatz) (rest : List ℕ) → bytes ≡ codes "const " ++ line → const_at line ≡ Some (e, rest) → TakesPsatz d bytes e rest
@@ -102,7 +106,7 @@ const_takes d bytes line e rest opens read =
     let number = n.0 in
     let text : bytes ≡ spelled (Psatz-F.Const (pos b.0.0)) ++ b.0.1 = opens ∙ ap (λ t. codes "const " ++ t) number.text in
     let range : is_constant_in_range (pos b.0.0) ≡ true = and_from (int_le (pos 1) (pos b.0.0)) (ltb b.0.0 (2 ^ 126)) (le-leb 1 b.0.0 (omega (arith, n.1))) (lt-ltb b.0.0 (2 ^ 126) number.below) in
-    subst (λ (p : Psatz × List ℕ). TakesPsatz d bytes p.0 p.1) (some_is (Const (pos b.0.0), b.0.1) (e, rest) b.2)
+    subst (λ (p : Psatz × List ℕ). TakesPsatz d bytes p.0 p.1) (same_Some (Const (pos b.0.0), b.0.1) (e, rest) b.2)
     (made d bytes (Psatz-F.Const (pos b.0.0)) (Const (pos b.0.0)) b.0.1 (rolls-Const (pos b.0.0)) text (record { flat = omega arith; in_range = range; inside = refl }))
 
 zero_takes : (d : ℕ) (bytes rest : List ℕ) → bytes ≡ codes "zero" ++ rest → TakesPsatz d bytes Zero rest
@@ -116,7 +120,7 @@ leaf_takes d bytes e rest read =
       | inr h ↦ elim (choice_some (after (codes "const ") bytes) const_at (elim (after (codes "zero") bytes) [ Some r ↦ Some (Zero, r) | None ↦ None ]) (e, rest) h.1) [
         | inl k ↦ const_takes d bytes k.0 e rest (after_takes (codes "const ") bytes k.0 k.1) k.2
         | inr k ↦ elim (choice_some (after (codes "zero") bytes) (λ r. Some (Zero, r)) None (e, rest) k.1) [
-          | inl z ↦ subst (λ (p : Psatz × List ℕ). TakesPsatz d bytes p.0 p.1) (some_is (Zero, z.0) (e, rest) z.2) (zero_takes d bytes z.0 (after_takes (codes "zero") bytes z.0 z.1))
+          | inl z ↦ subst (λ (p : Psatz × List ℕ). TakesPsatz d bytes p.0 p.1) (same_Some (Zero, z.0) (e, rest) z.2) (zero_takes d bytes z.0 (after_takes (codes "zero") bytes z.0 z.1))
           | inr z ↦ absurd (let none = z.1 in cc)
         ]
       ]
@@ -129,8 +133,8 @@ square_takes d bytes line e rest opens read =
     let p = poly_takes line a.0.0 a.0.1 a.1 in
     let text : bytes ≡ spelled (Psatz-F.Square a.0.0) ++ b.0 =
     opens ∙ ap (λ t. codes "square(" ++ t) (p.text ∙ ap (λ t. poly_text a.0.0 ++ t) (after_takes (codes ")") a.0.1 b.0 b.1) ∙ sym (append_assoc (poly_text a.0.0) (codes ")") b.0)) in
-    subst (λ (q : Psatz × List ℕ). TakesPsatz (suc d) bytes q.0 q.1) (some_is (Square a.0.0, b.0) (e, rest) b.2)
-    (made (suc d) bytes (Psatz-F.Square a.0.0) (Square a.0.0) b.0 (rolls-Square a.0.0) text (record { flat = omega arith; in_range = refl; inside = terms_from a.0.0 p.are }))
+    subst (λ (q : Psatz × List ℕ). TakesPsatz (suc d) bytes q.0 q.1) (same_Some (Square a.0.0, b.0) (e, rest) b.2)
+    (made (suc d) bytes (Psatz-F.Square a.0.0) (Square a.0.0) b.0 (rolls-Square a.0.0) text (record { flat = omega arith; in_range = refl; inside = fits_from a.0.0 p.fits }))
 
 -- reading with this depth takes what is spelled
 abbrev pub Takes : ℕ → Type 0
@@ -148,9 +152,9 @@ mulp_takes d takes bytes line e rest opens read =
     opens ∙ ap (λ t. codes "mulp(" ++ t) (p.text ∙ ap (λ t. poly_text a.0.0 ++ t) (after_takes (codes ", ") a.0.1 b.0 b.1 ∙ ap (λ t. codes ", " ++ t) (q.text ∙ ap (λ t. psatz_text c.0.0 ++ t) (after_takes (codes ")") c.0.1 k.0 k.1)))
     ∙ sym (two_on (poly_text a.0.0) (psatz_text c.0.0) k.0)) in
     let part = deeper d (psatz_depth c.0.0) (has_constants_in_range c.0.0) (is_psatz_within c.0.0) q.within in
-    subst (λ (q : Psatz × List ℕ). TakesPsatz (suc d) bytes q.0 q.1) (some_is (MulPoly a.0.0 c.0.0, k.0) (e, rest) k.2)
+    subst (λ (q : Psatz × List ℕ). TakesPsatz (suc d) bytes q.0 q.1) (same_Some (MulPoly a.0.0 c.0.0, k.0) (e, rest) k.2)
     (made (suc d) bytes (Psatz-F.MulPoly a.0.0 c.0.0) (MulPoly a.0.0 c.0.0) k.0 (rolls-MulPoly a.0.0 c.0.0) text
-    (record { flat = part.flat; in_range = part.in_range; inside = and_from (is_polynomial a.0.0) (is_psatz_within c.0.0) (terms_from a.0.0 p.are) part.inside }))
+    (record { flat = part.flat; in_range = part.in_range; inside = and_from (is_polynomial a.0.0) (is_psatz_within c.0.0) (fits_from a.0.0 p.fits) part.inside }))
 
 -- two expressions, one after the other
 pub record TakesPair (d : ℕ) (bytes : List ℕ) (p : Psatz × Psatz) (rest : List ℕ) : Type 0 where
@@ -167,7 +171,7 @@ pair_takes d takes bytes p rest read =
     let f = takes b.0 c.0.0 c.0.1 c.1 in
     let text : bytes ≡ psatz_text a.0.0 ++ (codes ", " ++ (psatz_text c.0.0 ++ c.0.1)) =
     e.text ∙ ap (λ t. psatz_text a.0.0 ++ t) (after_takes (codes ", ") a.0.1 b.0 b.1 ∙ ap (λ t. codes ", " ++ t) f.text) in
-    subst (λ (q : (Psatz × Psatz) × List ℕ). TakesPair d bytes q.0 q.1) (some_is ((a.0.0, c.0.0), c.0.1) (p, rest) c.2) (record { text = text; first = e.within; second = f.within })
+    subst (λ (q : (Psatz × Psatz) × List ℕ). TakesPair d bytes q.0 q.1) (same_Some ((a.0.0, c.0.0), c.0.1) (p, rest) c.2) (record { text = text; first = e.within; second = f.within })
 
 both_within : (d : ℕ) (e f : Psatz) → PsatzWithin d e → PsatzWithin d f → LevelWithin (suc d) (Psatz-F.Add e f)
 both_within d e f first second =
@@ -181,7 +185,7 @@ two_take d make takes line e rest read =
     let a = bind_some (pair_at (psatz_at d) line) (λ p. after (codes ")") p.1 >>= λ r. Some (make p.0.0 p.0.1, r)) (e, rest) read in
     let b = bind_some (after (codes ")") a.0.1) (λ r. Some (make a.0.0.0 a.0.0.1, r)) (e, rest) a.2 in
     let p = pair_takes d takes line a.0.0 a.0.1 a.1 in
-    let same = some_is (make a.0.0.0 a.0.0.1, b.0) (e, rest) b.2 in
+    let same = same_Some (make a.0.0.0 a.0.0.1, b.0) (e, rest) b.2 in
     let follows : b.0 ≡ rest = ap (λ (q : Psatz × List ℕ). q.1) same in
     let text : line ≡ (psatz_text a.0.0.0 ++ (codes ", " ++ (psatz_text a.0.0.1 ++ codes ")"))) ++ rest =
     p.text ∙ ap (λ t. psatz_text a.0.0.0 ++ (codes ", " ++ (psatz_text a.0.0.1 ++ t))) (after_takes (codes ")") a.0.1 b.0 b.1 ∙ ap (λ t. codes ")" ++ t) follows) ∙ sym (two_on (psatz_text a.0.0.0) (psatz_text a.0.0.1) rest) in
@@ -243,7 +247,7 @@ zero_read : (d : ℕ) (rest : List ℕ) → psatz_at d (codes "zero" ++ rest) �
 unfolding psatz_at node_at leaf_at
 zero_read d rest = elim d as (λ d. psatz_at d (codes "zero" ++ rest) ≡ Some (Zero, rest)) [ zero ↦ refl | suc k ↦ refl ]
 
-square_read : (d : ℕ) (p : List Term) (rest : List ℕ) → AreTerms p → psatz_at (suc d) (codes "square(" ++ (poly_text p ++ (codes ")" ++ rest))) ≡ Some (Square p, rest)
+square_read : (d : ℕ) (p : List Term) (rest : List ℕ) → Fits p → psatz_at (suc d) (codes "square(" ++ (poly_text p ++ (codes ")" ++ rest))) ≡ Some (Square p, rest)
 unfolding psatz_at node_at
 square_read d p rest are = let q = poly_again p (codes ")" ++ rest) are refl refl in rw q refl
 
@@ -251,7 +255,7 @@ square_read d p rest are = let q = poly_again p (codes ")" ++ rest) are refl ref
 abbrev pub Reads : ℕ → Type 0
 Reads d = (e : Psatz) (rest : List ℕ) → PsatzWithin d e → begins_digit rest ≡ false → psatz_at d (psatz_text e ++ rest) ≡ Some (e, rest)
 
-mulp_read : (d : ℕ) → Reads d → (p : List Term) (e : Psatz) (rest : List ℕ) → AreTerms p → PsatzWithin d e
+mulp_read : (d : ℕ) → Reads d → (p : List Term) (e : Psatz) (rest : List ℕ) → Fits p → PsatzWithin d e
     → psatz_at (suc d) (codes "mulp(" ++ (poly_text p ++ (codes ", " ++ (psatz_text e ++ (codes ")" ++ rest))))) ≡ Some (MulPoly p e, rest)
 unfolding psatz_at node_at
 mulp_read d reads p e rest are within =
@@ -312,12 +316,12 @@ level_deep d reads (Psatz-F.Hyp n) rest w stop = hyp_read (suc d) n rest (ltb-tr
 level_deep d reads (Psatz-F.Const c) rest w stop = const_of (suc d) c rest w.in_range stop ∙ ap (λ e. Some (e, rest)) (sym (rolls-Const c))
 level_deep d reads Psatz-F.Zero rest w stop = zero_read (suc d) rest ∙ ap (λ e. Some (e, rest)) (sym rolls-Zero)
 level_deep d reads (Psatz-F.Square p) rest w stop =
-    ap (λ t. psatz_at (suc d) (codes "square(" ++ t)) (append_assoc (poly_text p) (codes ")") rest) ∙ square_read d p rest (terms_given p w.inside) ∙ ap (λ e. Some (e, rest)) (sym (rolls-Square p))
+    ap (λ t. psatz_at (suc d) (codes "square(" ++ t)) (append_assoc (poly_text p) (codes ")") rest) ∙ square_read d p rest (fits_given p w.inside) ∙ ap (λ e. Some (e, rest)) (sym (rolls-Square p))
 level_deep d reads (Psatz-F.MulPoly p e) rest w stop =
     let parts = and_parts (is_polynomial p) (is_psatz_within e) w.inside in
     let flat = w.flat in
     let part : PsatzWithin d e = record { flat = omega arith; in_range = w.in_range; inside = parts.1 } in
-    ap (λ t. psatz_at (suc d) (codes "mulp(" ++ t)) (two_on (poly_text p) (psatz_text e) rest) ∙ mulp_read d reads p e rest (terms_given p parts.0) part ∙ ap (λ e. Some (e, rest)) (sym (rolls-MulPoly p e))
+    ap (λ t. psatz_at (suc d) (codes "mulp(" ++ t)) (two_on (poly_text p) (psatz_text e) rest) ∙ mulp_read d reads p e rest (fits_given p parts.0) part ∙ ap (λ e. Some (e, rest)) (sym (rolls-MulPoly p e))
 level_deep d reads (Psatz-F.Mul e f) rest w stop =
     let parts = pair_parts d e f w in
     ap (λ t. psatz_at (suc d) (codes "mul(" ++ t)) (two_on (psatz_text e) (psatz_text f) rest) ∙ mul_read d reads e f rest parts.0 parts.1 ∙ ap (λ e. Some (e, rest)) (sym (rolls-Mul e f))

@@ -2,38 +2,32 @@
 use Rattle.std.proofs.Common.{◌≡◌, ℕ, zero, suc, ◌^◌, ◌<◌, ◌≤◌, true, ◌⊎◌, inl, inr, List, [], ◌∷◌, ◌++◌, length, Some, None, refl, sym, ap, subst, ◌∙◌, append_assoc, arith}
 use Rattle.std.specs.Prelude.{unsigned_abs, codes}
 use Rattle.std.specs.List.{flat_map, AllByRecursion}
+use Rattle.std.proofs.lemmas.Option.{same_Some}
+use Rattle.mm_num.specs.Option.{◌>>=◌}
+use Rattle.mm_num.proofs.OptionLaws.{bind_some, choice_some}
 use Rattle.mm_poly.specs.declared.term.Term.{Term}
-use Rattle.mm_poly.specs.Poly.{Fits, IsPoly, norm, degree}
+use Rattle.mm_poly.specs.Poly.{Fits, IsPoly, AllMono, HasPlaces, norm, degree}
 use Rattle.cert_kit.specs.declared.row.Op.{Op}
 use Rattle.cert_kit.specs.declared.row.Op.TheVariants.{Ge, Eq}
 use Rattle.cert_kit.specs.declared.row.PRow.{PRow}
 use Rattle.cert_text.specs.Text.{first_sign, term_text, more_terms, poly_text, op_text, row_text, row_line}
-use Rattle.cert_text.specs.Check.{IsTerm, IsRow}
-use Rattle.cert_text.specs.Limits.{fit}
+use Rattle.cert_text.specs.Check.{IsRow}
+use Rattle.mm_poly.specs.Tests.{is_polynomial}
 use Rattle.cert_text.specs.Place.{BeginsRow}
-use Rattle.cert_text.specs.Reading.{◌>>=◌, after, first_sign_at, next_sign_at, next_term_at, more_terms_at, terms_at, fitting, poly_at, op_at, row_at, with_row, rows_at}
-use Rattle.cert_text.proofs.WordLaws.{some_is, bind_some, guard_some, choice_some, after_takes}
-use Rattle.cert_text.proofs.LimitLaws.{fit_given, fit_from, AreTerms}
+use Rattle.cert_text.specs.Reading.{after, first_sign_at, next_sign_at, next_term_at, more_terms_at, terms_at, fitting, poly_at, op_at, row_at, with_row, rows_at}
+use Rattle.cert_text.proofs.WordLaws.{guard_some, after_takes}
+use Rattle.mm_poly.proofs.TestLaws.{fits_given, fits_from}
 use Rattle.cert_text.proofs.ManyLaws.{many_take, many_again, many_follow}
 use Rattle.cert_text.proofs.MonoLaws.{ends_term}
 use Rattle.cert_text.proofs.TermLaws.{IsGood, TermEnds, first_text, next_text, first_takes, next_taken, first_again, first_not_zero, next_read, more_terms-flat}
 
 -- the terms of a polynomial can stand in a text where they do one by one
-good_from_terms : (ts : List Term) → AllByRecursion IsTerm ts → IsPoly ts → norm ts < 2 ^ 126 → degree ts ≤ 255 → AllByRecursion IsGood ts
-good_from_terms [] are order small flat = tt
-good_from_terms (t ∷ ts) are order small flat =
-    let one = are.0 in (
-      record { not_zero = order.0; small = omega arith; written = record { good = record { order = one.mono; degree = omega arith }; room = one.variables } },
-      good_from_terms ts are.1 order.2 (omega arith) (omega arith),
-    )
-
-terms_from_good : (ts : List Term) → AllByRecursion IsGood ts → AllByRecursion IsTerm ts
-terms_from_good [] good = tt
-terms_from_good (t ∷ ts) good =
-    let one = good.0 in
-    let written = one.written in
-    let monomial = written.good in
-    (record { mono = monomial.order; variables = written.room }, terms_from_good ts good.1)
+good_from_terms : (ts : List Term) → AllMono ts → HasPlaces (2 ^ 32) ts → IsPoly ts → norm ts < 2 ^ 126 → degree ts ≤ 255 → AllByRecursion IsGood ts
+good_from_terms [] monos room order small flat = tt
+good_from_terms (t ∷ ts) monos room order small flat = (
+  record { not_zero = order.0; small = omega arith; written = record { order = monos.0; degree = omega arith; room = room.0 } },
+  good_from_terms ts monos.1 room.1 order.2 (omega arith) (omega arith),
+)
 
 poly_text-cons : (t : Term) (ts : List Term) (rest : List ℕ) → poly_text (t ∷ ts) ++ rest ≡ first_text t ++ (flat_map next_text ts ++ rest)
 poly_text-cons t ts rest =
@@ -44,11 +38,10 @@ poly_text-cons t ts rest =
 -- what is read of a polynomial
 pub record TakesPoly (bytes : List ℕ) (ts : List Term) (rest : List ℕ) : Type 0 where
   pub text : bytes ≡ poly_text ts ++ rest
-  pub are : AreTerms ts
+  pub fits : Fits ts
 
 no_terms_fit : Fits []
-unfolding fit
-no_terms_fit = fit_given [] refl
+no_terms_fit = record { order = tt; monos = tt; room = tt; norm = omega arith; spread = omega arith; degree = omega arith }
 
 terms_take : (bytes : List ℕ) (ts : List Term) (rest : List ℕ) → terms_at bytes ≡ Some (ts, rest) → Fits ts → TakesPoly bytes ts rest
 unfolding terms_at
@@ -58,31 +51,31 @@ terms_take bytes ts rest e =
     let first = first_takes bytes a.0.0 a.0.1 a.1 in
     let others = many_take next_sign_at next_term_at next_text IsGood next_taken 65536 a.0.1 b.0.0 b.0.1 b.1 in
     let text : bytes ≡ poly_text (a.0.0 ∷ b.0.0) ++ b.0.1 = first.0 ∙ ap (λ t. first_text a.0.0 ++ t) others.0 ∙ sym (poly_text-cons a.0.0 b.0.0 b.0.1) in
-    subst (λ (p : List Term × List ℕ). Fits p.0 → TakesPoly bytes p.0 p.1) (some_is (a.0.0 ∷ b.0.0, b.0.1) (ts, rest) b.2)
-    (λ fits. record { text = text; are = record { terms = terms_from_good (a.0.0 ∷ b.0.0) (first.1, others.1); fits = fits } })
+    subst (λ (p : List Term × List ℕ). Fits p.0 → TakesPoly bytes p.0 p.1) (same_Some (a.0.0 ∷ b.0.0, b.0.1) (ts, rest) b.2)
+    (λ fits. record { text = text; fits = fits })
 
 pub poly_takes : (bytes : List ℕ) (ts : List Term) (rest : List ℕ) → poly_at bytes ≡ Some (ts, rest) → TakesPoly bytes ts rest
 unfolding poly_at
 poly_takes bytes ts rest e =
     elim (choice_some (after (codes "0") bytes) (λ r. Some ([], r)) (terms_at bytes >>= λ terms. fitting terms.0 >>= λ p. Some (p, terms.1)) (ts, rest) e) [
       | inl h ↦
-          subst (λ (p : List Term × List ℕ). TakesPoly bytes p.0 p.1) (some_is ([], h.0) (ts, rest) h.2)
-          (record { text = after_takes (codes "0") bytes h.0 h.1; are = record { terms = tt; fits = no_terms_fit } })
+          subst (λ (p : List Term × List ℕ). TakesPoly bytes p.0 p.1) (same_Some ([], h.0) (ts, rest) h.2)
+          (record { text = after_takes (codes "0") bytes h.0 h.1; fits = no_terms_fit })
       | inr h ↦
           let a = bind_some (terms_at bytes) (λ terms. fitting terms.0 >>= λ p. Some (p, terms.1)) (ts, rest) h.1 in
           let b = bind_some (fitting a.0.0) (λ p. Some (p, a.0.1)) (ts, rest) a.2 in
-          let g = guard_some (fit a.0.0) (Some a.0.0) b.0 b.1 in
-          let same : a.0.0 ≡ b.0 = some_is a.0.0 b.0 g.1 in
-          subst (λ (p : List Term × List ℕ). TakesPoly bytes p.0 p.1) (ap (λ p. (p, a.0.1)) same ∙ some_is (b.0, a.0.1) (ts, rest) b.2) (terms_take bytes a.0.0 a.0.1 a.1 (fit_given a.0.0 g.0))
+          let g = guard_some (is_polynomial a.0.0) (Some a.0.0) b.0 b.1 in
+          let same : a.0.0 ≡ b.0 = same_Some a.0.0 b.0 g.1 in
+          subst (λ (p : List Term × List ℕ). TakesPoly bytes p.0 p.1) (ap (λ p. (p, a.0.1)) same ∙ same_Some (b.0, a.0.1) (ts, rest) b.2) (terms_take bytes a.0.0 a.0.1 a.1 (fits_given a.0.0 g.0))
     ]
 
 op_takes : (bytes : List ℕ) (o : Op) (rest : List ℕ) → op_at bytes ≡ Some (o, rest) → bytes ≡ op_text o ++ 10 ∷ rest
 unfolding op_at
 op_takes bytes o rest e =
     elim (choice_some (after (codes " >= 0" ++ 10 ∷ []) bytes) (λ r. Some (Ge, r)) (elim (after (codes " = 0" ++ 10 ∷ []) bytes) [ Some r ↦ Some (Eq, r) | None ↦ None ]) (o, rest) e) [
-      | inl h ↦ subst (λ (p : Op × List ℕ). bytes ≡ op_text p.0 ++ 10 ∷ p.1) (some_is (Ge, h.0) (o, rest) h.2) (after_takes (codes " >= 0" ++ 10 ∷ []) bytes h.0 h.1)
+      | inl h ↦ subst (λ (p : Op × List ℕ). bytes ≡ op_text p.0 ++ 10 ∷ p.1) (same_Some (Ge, h.0) (o, rest) h.2) (after_takes (codes " >= 0" ++ 10 ∷ []) bytes h.0 h.1)
       | inr h ↦ elim (choice_some (after (codes " = 0" ++ 10 ∷ []) bytes) (λ r. Some (Eq, r)) None (o, rest) h.1) [
-        | inl k ↦ subst (λ (p : Op × List ℕ). bytes ≡ op_text p.0 ++ 10 ∷ p.1) (some_is (Eq, k.0) (o, rest) k.2) (after_takes (codes " = 0" ++ 10 ∷ []) bytes k.0 k.1)
+        | inl k ↦ subst (λ (p : Op × List ℕ). bytes ≡ op_text p.0 ++ 10 ∷ p.1) (same_Some (Eq, k.0) (o, rest) k.2) (after_takes (codes " = 0" ++ 10 ∷ []) bytes k.0 k.1)
         | inr k ↦ absurd (let e = k.1 in cc)
       ]
     ]
@@ -98,11 +91,11 @@ row_takes bytes r rest e =
     let a = bind_some (poly_at w.0) (λ p. op_at p.1 >>= λ o. Some (record { poly = p.0; op = o.0 }, o.1)) (r, rest) w.2 in
     let b = bind_some (op_at a.0.1) (λ o. Some (record { poly = a.0.0; op = o.0 }, o.1)) (r, rest) a.2 in
     let p = poly_takes w.0 a.0.0 a.0.1 a.1 in
-    let are = p.are in
+    let fits = p.fits in
     let made : PRow = record { poly = a.0.0; op = b.0.0 } in
     let text : bytes ≡ row_line made ++ b.0.1 =
     after_takes (codes "row ") bytes w.0 w.1 ∙ ap (λ t. codes "row " ++ t) (p.text ∙ ap (λ t. poly_text a.0.0 ++ t) (op_takes a.0.1 b.0.0 b.0.1 b.1)) ∙ sym (row_line_text made b.0.1) in
-    subst (λ (q : PRow × List ℕ). (bytes ≡ row_line q.0 ++ q.1) × IsRow q.0) (some_is (made, b.0.1) (r, rest) b.2) (text, record { terms = are.terms; fits = are.fits })
+    subst (λ (q : PRow × List ℕ). (bytes ≡ row_line q.0 ++ q.1) × IsRow q.0) (same_Some (made, b.0.1) (r, rest) b.2) (text, record { fits = fits })
 
 -- ---- reading again
 
@@ -114,17 +107,16 @@ terms_again t ts rest good few ends no_sign =
     let first : next_term_at (first_sign_at (first_text t ++ more)) ≡ Some (t, more) = first_again t more good.0 (many_follow next_sign_at next_term_at next_text IsGood TermEnds next_read ts rest good.1 ends) in
     ap terms_at (poly_text-cons t ts rest) ∙ rw first (rw others refl)
 
-pub poly_again : (ts : List Term) (rest : List ℕ) → AreTerms ts → ends_term rest ≡ true → next_sign_at rest ≡ None → poly_at (poly_text ts ++ rest) ≡ Some (ts, rest)
+pub poly_again : (ts : List Term) (rest : List ℕ) → Fits ts → ends_term rest ≡ true → next_sign_at rest ≡ None → poly_at (poly_text ts ++ rest) ≡ Some (ts, rest)
 unfolding poly_at
-poly_again [] rest are ends no_sign = refl
-poly_again (t ∷ ts) rest are ends no_sign =
-    let fits = are.fits in
+poly_again [] rest fits ends no_sign = refl
+poly_again (t ∷ ts) rest fits ends no_sign =
     let spread_is = fits.spread in
-    let good = good_from_terms (t ∷ ts) are.terms fits.order fits.norm fits.degree in
+    let good = good_from_terms (t ∷ ts) fits.monos fits.room fits.order fits.norm fits.degree in
     let few : length ts ≤ 65536 = omega arith in
     let plain : after (codes "0") (poly_text (t ∷ ts) ++ rest) ≡ None = ap (after (codes "0")) (poly_text-cons t ts rest) ∙ first_not_zero t (flat_map next_text ts ++ rest) good.0 in
     let read : terms_at (poly_text (t ∷ ts) ++ rest) ≡ Some (t ∷ ts, rest) = terms_again t ts rest good few ends no_sign in
-    let fitted : fit (t ∷ ts) ≡ true = fit_from (t ∷ ts) fits in
+    let fitted : is_polynomial (t ∷ ts) ≡ true = fits_from (t ∷ ts) fits in
     rw (plain, poly_at) (rw read (rw fitted refl))
 
 op_again : (o : Op) (rest : List ℕ) → op_at (op_text o ++ 10 ∷ rest) ≡ Some (o, rest)
@@ -140,7 +132,7 @@ pub row_again : (r : PRow) (rest : List ℕ) → IsRow r → row_at (row_line r 
 unfolding row_at
 row_again r rest is =
     let ends = op_ends r.op rest in
-    let p = poly_again r.poly (op_text r.op ++ 10 ∷ rest) (record { terms = is.terms; fits = is.fits }) ends.0 ends.1 in
+    let p = poly_again r.poly (op_text r.op ++ 10 ∷ rest) is.fits ends.0 ends.1 in
     ap row_at (row_line_text r rest) ∙ rw p (rw (op_again r.op rest) refl)
 
 -- ---- lines of rows

@@ -3,23 +3,20 @@ use Rattle.std.proofs.Common.{◌≡◌, ◌≢◌, ℕ, zero, suc, ◌^◌, ◌
 use Rattle.std.specs.Prelude.{ℤ, pos, negsuc, unsigned_abs, decimal, codes}
 use Rattle.std.specs.List.{flat_map}
 use Rattle.std.proofs.lemmas.Bool.{ne_eqb, cases_eq}
+use Rattle.std.proofs.lemmas.Option.{same_Some}
+use Rattle.mm_num.specs.Option.{◌>>=◌}
+use Rattle.mm_num.proofs.OptionLaws.{bind_some, choice_some}
 use Rattle.mm_poly.specs.declared.term.Term.{Term}
 use Rattle.mm_poly.specs.Mono.{IsMonomial}
 use Rattle.cert_text.specs.Text.{factor_text, more_factors, term_text, first_sign, next_sign, more_terms}
-use Rattle.cert_text.specs.Check.{HaveRoom}
-use Rattle.cert_text.specs.Reading.{◌>>=◌, after, positive_at, monomial_at, multiple_at, signed, signed_term, term_at, first_sign_of, first_sign_at, next_sign_at, next_term_at}
-use Rattle.cert_text.proofs.WordLaws.{some_is, bind_some, guard_none, choice_some, after_takes}
+use Rattle.cert_text.specs.Reading.{after, positive_at, monomial_at, multiple_at, signed, signed_term, term_at, first_sign_of, first_sign_at, next_sign_at, next_term_at}
+use Rattle.cert_text.proofs.WordLaws.{guard_none, after_takes}
 use Rattle.cert_text.proofs.NumberLaws.{TakesNumber, small, positive_takes, positive_again, not_a_word}
 use Rattle.cert_text.proofs.ManyLaws.{AreTaken, AreRead}
 use Rattle.cert_text.proofs.MonoLaws.{TakesMonomial, monomial_takes, monomial_again, factors_on, factors_text_on, ends_term, factor_ends, no_digit, no_star}
 
--- a monomial that can be written
-pub record IsWritten (m : List (ℕ × ℕ)) : Type 0 where
-  pub good : IsMonomial m
-  pub room : HaveRoom m
-
-none_written : IsWritten []
-none_written = record { good = record { order = tt; degree = omega arith }; room = tt }
+no_factors : IsMonomial []
+no_factors = record { order = tt; degree = omega arith; room = tt }
 
 -- ---- texts, nested to the right
 
@@ -37,7 +34,7 @@ multiple_text n f fs rest other = multiple_front n f fs rest other ∙ ap (λ t.
 -- a magnitude and a monomial
 pub record TakesProduct (bytes : List ℕ) (n : ℕ) (m : List (ℕ × ℕ)) (rest : List ℕ) : Type 0 where
   pub text : bytes ≡ term_text n m ++ rest
-  pub written : IsWritten m
+  pub written : IsMonomial m
   pub positive : 0 < n
   pub small : n < 2 ^ 126
 
@@ -46,14 +43,14 @@ lone_takes : (bytes x_rest : List ℕ) (m : List (ℕ × ℕ)) (rest : List ℕ)
 lone_takes bytes x_rest m rest e t =
     let whole : bytes ≡ term_text 1 (t.first ∷ t.others) ++ rest = e ∙ t.text in
     let text : bytes ≡ term_text 1 m ++ rest = subst (λ m. bytes ≡ term_text 1 m ++ rest) t.is whole in
-    record { text = text; written = record { good = t.good; room = t.room }; positive = omega arith; small = omega arith }
+    record { text = text; written = t.good; positive = omega arith; small = omega arith }
 
 multiple_takes : (n : ℕ) (bytes n_rest x_rest : List ℕ) (m : List (ℕ × ℕ)) (rest : List ℕ) → bytes ≡ decimal n ++ n_rest → 0 < n → n < 2 ^ 126 → n_rest ≡ codes "*x" ++ x_rest → eqb n 1 ≡ false
     → TakesMonomial x_rest m rest → TakesProduct bytes n m rest
 multiple_takes n bytes n_rest x_rest m rest e positive below f other t =
     let whole : bytes ≡ term_text n (t.first ∷ t.others) ++ rest = e ∙ ap (λ b. decimal n ++ b) (f ∙ ap (λ b. 42 ∷ b) t.text) ∙ sym (multiple_front n t.first t.others rest other) in
     let text : bytes ≡ term_text n m ++ rest = subst (λ m. bytes ≡ term_text n m ++ rest) t.is whole in
-    record { text = text; written = record { good = t.good; room = t.room }; positive = positive; small = below }
+    record { text = text; written = t.good; positive = positive; small = below }
 
 product_takes : (n : ℕ) (bytes n_rest : List ℕ) (m : List (ℕ × ℕ)) (rest : List ℕ) → TakesNumber (2 ^ 126) bytes n n_rest → 0 < n → multiple_at n n_rest ≡ Some (m, rest) → TakesProduct bytes n m rest
 unfolding multiple_at
@@ -63,7 +60,7 @@ product_takes n bytes n_rest m rest t positive e =
           let g = guard_none (eqb n 1) (monomial_at h.0) (m, rest) h.2 in
           multiple_takes n bytes n_rest h.0 m rest t.text positive t.below (after_takes (codes "*x") n_rest h.0 h.1) g.0 (monomial_takes h.0 m rest g.1)
       | inr h ↦
-          subst (λ (p : List (ℕ × ℕ) × List ℕ). TakesProduct bytes n p.0 p.1) (some_is ([], n_rest) (m, rest) h.1) (record { text = t.text; written = none_written; positive = positive; small = t.below })
+          subst (λ (p : List (ℕ × ℕ) × List ℕ). TakesProduct bytes n p.0 p.1) (same_Some ([], n_rest) (m, rest) h.1) (record { text = t.text; written = no_factors; positive = positive; small = t.below })
     ]
 
 pub record TakesTerm (negative : Bool) (bytes : List ℕ) (t : Term) (rest : List ℕ) : Type 0 where
@@ -79,13 +76,13 @@ term_takes negative bytes t rest e =
       | inl h ↦
           let a = bind_some (monomial_at h.0) (λ m. Some (signed_term negative 1 m.0, m.1)) (t, rest) h.2 in
           let v = monomial_takes h.0 a.0.0 a.0.1 a.1 in
-          subst (λ (p : Term × List ℕ). TakesTerm negative bytes p.0 p.1) (some_is (signed_term negative 1 a.0.0, a.0.1) (t, rest) a.2)
+          subst (λ (p : Term × List ℕ). TakesTerm negative bytes p.0 p.1) (same_Some (signed_term negative 1 a.0.0, a.0.1) (t, rest) a.2)
           (record { magnitude = 1; coeff = refl; product = lone_takes bytes h.0 a.0.0 a.0.1 (after_takes (codes "x") bytes h.0 h.1) v })
       | inr h ↦
           let a = bind_some (positive_at (2 ^ 126) bytes) (λ n. multiple_at n.0 n.1 >>= λ m. Some (signed_term negative n.0 m.0, m.1)) (t, rest) h.1 in
           let n = positive_takes (2 ^ 126) bytes a.0.0 a.0.1 small a.1 in
           let b = bind_some (multiple_at a.0.0 a.0.1) (λ m. Some (signed_term negative a.0.0 m.0, m.1)) (t, rest) a.2 in
-          subst (λ (p : Term × List ℕ). TakesTerm negative bytes p.0 p.1) (some_is (signed_term negative a.0.0 b.0.0, b.0.1) (t, rest) b.2)
+          subst (λ (p : Term × List ℕ). TakesTerm negative bytes p.0 p.1) (same_Some (signed_term negative a.0.0 b.0.0, b.0.1) (t, rest) b.2)
           (record { magnitude = a.0.0; coeff = refl; product = product_takes a.0.0 bytes a.0.1 b.0.0 b.0.1 n.0 n.1 b.1 })
     ]
 
@@ -136,7 +133,7 @@ is_signed (negsuc n) no_zero = record { negative = true; magnitude = suc n; is =
 pub record IsGood (t : Term) : Type 0 where
   pub not_zero : t.coeff ≢ pos 0
   pub small : unsigned_abs t.coeff < 2 ^ 126
-  pub written : IsWritten t.mono
+  pub written : IsMonomial t.mono
 
 good_term : (negative : Bool) (bytes : List ℕ) (t : Term) (rest : List ℕ) → TakesTerm negative bytes t rest → IsGood t
 good_term negative bytes t rest k =
@@ -170,9 +167,9 @@ first_sign_takes bytes None e = refl
 next_sign_takes : (bytes : List ℕ) (s : Bool × List ℕ) → next_sign_at bytes ≡ Some s → bytes ≡ next_mark s.0 ++ s.1
 next_sign_takes bytes s e =
     elim (choice_some (after (codes " + ") bytes) (λ r. Some (false, r)) (elim (after (codes " - ") bytes) [ Some r ↦ Some (true, r) | None ↦ None ]) s e) [
-      | inl h ↦ subst (λ (s : Bool × List ℕ). bytes ≡ next_mark s.0 ++ s.1) (some_is (false, h.0) s h.2) (after_takes (codes " + ") bytes h.0 h.1)
+      | inl h ↦ subst (λ (s : Bool × List ℕ). bytes ≡ next_mark s.0 ++ s.1) (same_Some (false, h.0) s h.2) (after_takes (codes " + ") bytes h.0 h.1)
       | inr h ↦ elim (choice_some (after (codes " - ") bytes) (λ r. Some (true, r)) None s h.1) [
-        | inl k ↦ subst (λ (s : Bool × List ℕ). bytes ≡ next_mark s.0 ++ s.1) (some_is (true, k.0) s k.2) (after_takes (codes " - ") bytes k.0 k.1)
+        | inl k ↦ subst (λ (s : Bool × List ℕ). bytes ≡ next_mark s.0 ++ s.1) (same_Some (true, k.0) s k.2) (after_takes (codes " - ") bytes k.0 k.1)
         | inr k ↦ absurd (let e = k.1 in cc)
       ]
     ]
@@ -210,20 +207,20 @@ number_read b n rest positive below ends =
     let value : positive_at (2 ^ 126) (decimal n ++ rest) ≡ Some (n, rest) = positive_again (2 ^ 126) n rest small positive below (no_digit rest (factor_ends rest ends)) in
     rw (plain, term_at) (rw value (rw (multiple_none n rest ends) refl))
 
-lone_read : (b : Bool) (f : ℕ × ℕ) (fs : List (ℕ × ℕ)) (rest : List ℕ) → IsWritten (f ∷ fs) → TermEnds rest → IsReadTerm b 1 rest (f ∷ fs)
+lone_read : (b : Bool) (f : ℕ × ℕ) (fs : List (ℕ × ℕ)) (rest : List ℕ) → IsMonomial (f ∷ fs) → TermEnds rest → IsReadTerm b 1 rest (f ∷ fs)
 unfolding term_at
 lone_read b f fs rest written ends =
-    ap (term_at b) (factors_text_on f fs rest) ∙ rw (monomial_again f fs rest written.good written.room ends) refl
+    ap (term_at b) (factors_text_on f fs rest) ∙ rw (monomial_again f fs rest written ends) refl
 
-multiple_read : (b : Bool) (n : ℕ) (f : ℕ × ℕ) (fs : List (ℕ × ℕ)) (rest : List ℕ) → 0 < n → n < 2 ^ 126 → eqb n 1 ≡ false → IsWritten (f ∷ fs) → TermEnds rest → IsReadTerm b n rest (f ∷ fs)
+multiple_read : (b : Bool) (n : ℕ) (f : ℕ × ℕ) (fs : List (ℕ × ℕ)) (rest : List ℕ) → 0 < n → n < 2 ^ 126 → eqb n 1 ≡ false → IsMonomial (f ∷ fs) → TermEnds rest → IsReadTerm b n rest (f ∷ fs)
 unfolding term_at multiple_at
 multiple_read b n f fs rest positive below other written ends =
     let more = codes "*x" ++ factors_on f fs rest in
     let plain : after (codes "x") (decimal n ++ more) ≡ None = not_a_word 120 [] (inr (omega arith)) n more positive (omega arith) in
     let value : positive_at (2 ^ 126) (decimal n ++ more) ≡ Some (n, more) = positive_again (2 ^ 126) n more small positive below refl in
-    ap (term_at b) (multiple_text n f fs rest other) ∙ rw (plain, term_at) (rw value (rw other (rw (monomial_again f fs rest written.good written.room ends) refl)))
+    ap (term_at b) (multiple_text n f fs rest other) ∙ rw (plain, term_at) (rw value (rw other (rw (monomial_again f fs rest written ends) refl)))
 
-term_read : (b : Bool) (n : ℕ) (m : List (ℕ × ℕ)) (rest : List ℕ) → 0 < n → n < 2 ^ 126 → IsWritten m → TermEnds rest → IsReadTerm b n rest m
+term_read : (b : Bool) (n : ℕ) (m : List (ℕ × ℕ)) (rest : List ℕ) → 0 < n → n < 2 ^ 126 → IsMonomial m → TermEnds rest → IsReadTerm b n rest m
 term_read b n [] rest positive below written ends = number_read b n rest positive below ends
 term_read b n (f ∷ fs) rest positive below written ends = elim (cases_eq n 1) [
   | inl one ↦ subst (λ k. IsReadTerm b k rest (f ∷ fs)) (sym one) (lone_read b f fs rest written ends)
@@ -242,7 +239,7 @@ term_not w word low n (f ∷ fs) rest positive below = elim (cases_eq n 1) [
 ]
 
 -- a good term, by its sign, its magnitude and its monomial
-by_good : (P : Term → Type 0) → ((b : Bool) (n : ℕ) (m : List (ℕ × ℕ)) → 0 < n → n < 2 ^ 126 → IsWritten m → P (signed_term b n m)) → (t : Term) → IsGood t → P t
+by_good : (P : Term → Type 0) → ((b : Bool) (n : ℕ) (m : List (ℕ × ℕ)) → 0 < n → n < 2 ^ 126 → IsMonomial m → P (signed_term b n m)) → (t : Term) → IsGood t → P t
 by_good P each t good =
     let s = is_signed t.coeff good.not_zero in
     let value : unsigned_abs t.coeff ≡ s.magnitude = ap unsigned_abs (sym s.is) ∙ abs-signed s.negative s.magnitude in

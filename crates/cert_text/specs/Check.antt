@@ -1,8 +1,6 @@
 -- The limits of a check: of its rows, and of its certificate.
-use Rattle.std.specs.Prelude.{◌≡◌, ℕ, ◌^◌, ◌<◌, ◌≤◌, List, [], ◌∷◌, length, Bool, true, nat_lt, ◌&&◌}
+use Rattle.std.specs.Prelude.{◌≡◌, ◌^◌, ◌<◌, ◌≤◌, List, [], ◌∷◌, length, Bool, true, nat_lt, ◌&&◌}
 use Rattle.std.specs.List.{AllByRecursion}
-use Rattle.mm_poly.specs.declared.term.Term.{Term}
-use Rattle.mm_poly.specs.Mono.{IsMono}
 use Rattle.mm_poly.specs.Poly.{Fits}
 use Rattle.cert_kit.specs.declared.row.PRow.{PRow}
 use Rattle.cert_kit.specs.declared.cert.Psatz.{Psatz}
@@ -15,21 +13,10 @@ use Rattle.cert_kit.specs.declared.cert.Close.{Close}
 use Rattle.cert_kit.specs.declared.cert.Close.TheOpen.{Close-F, Cert-F}
 use Rattle.cert_kit.specs.declared.cert.Close.TheFolds.{fold-Close, fold-Cert}
 use Rattle.cert_kit.specs.Depth.{cert_depth, cert_constants, all_in_range}
-use Rattle.cert_text.specs.Limits.{is_polynomial}
+use Rattle.mm_poly.specs.Tests.{is_polynomial}
 
--- every variable is below 2^32
-abbrev pub HaveRoom : List (ℕ × ℕ) → Type 0
-HaveRoom [] = Unit {0}
-HaveRoom (f ∷ fs) = (f.0 < 2 ^ 32) × HaveRoom fs
-
--- a term whose monomial has its variables in order, each below 2^32
-pub record IsTerm (t : Term) : Type 0 where
-  pub mono : IsMono t.mono
-  pub variables : HaveRoom t.mono
-
--- a row whose terms are a polynomial within its bounds, so no exponent is above 255
+-- a row whose terms are a polynomial within its bounds, so its variables are below 2^32 and no exponent is above 255
 pub record IsRow (r : PRow) : Type 0 where
-  pub terms : AllByRecursion IsTerm r.poly
   pub fits : Fits r.poly
 
 -- fewer than 2^32 rows

@@ -1,5 +1,4 @@
 pub mod Text
-pub mod Limits
 pub mod Check
 pub mod Place
 pub mod Reading

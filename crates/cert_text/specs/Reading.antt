@@ -1,5 +1,6 @@
 -- Reading from left to right: a value and the bytes after it, or none where the bytes don't begin with its text.
 use Rattle.std.specs.Prelude.{◌≡◌, ℕ, zero, suc, ◌+◌, ◌-◌, ◌*◌, ◌^◌, ℤ, pos, negsuc, List, [], ◌∷◌, ◌++◌, length, Option, Some, None, Result, Ok, Err, Bool, true, false, nat_lt, nat_le, ◌&&◌, ◌==◌, if◌then◌else◌, codes}
+use Rattle.mm_num.specs.Option.{◌>>=◌}
 use Rattle.mm_poly.specs.declared.term.Term.{Term}
 use Rattle.cert_kit.specs.declared.row.Op.{Op}
 use Rattle.cert_kit.specs.declared.row.Op.TheVariants.{Ge, Eq}
@@ -13,12 +14,7 @@ use Rattle.cert_kit.specs.declared.cert.Close.{Close}
 use Rattle.cert_kit.specs.declared.cert.Close.TheVariants.{Done, Split, Enum}
 use Rattle.cert_text.specs.declared.fail.TextFail.{TextFail}
 use Rattle.cert_text.specs.declared.fail.TextFail.TheVariants.{Bad, NoMemory}
-use Rattle.cert_text.specs.Limits.{is_monomial, fit}
-
-infixl 10 ◌>>=◌
-abbrev pub ◌>>=◌ : {A B : Type 0} → Option A → (A → Option B) → Option B
-(Some x) >>= f = f x
-None >>= f = None
+use Rattle.mm_poly.specs.Tests.{is_monomial, is_polynomial}
 
 -- What a function returned, seen by view, is what reading gives, unless memory ran out.
 abbrev pub Fails : {Y : Type 0} → TextFail → Option Y → Type 0
@@ -156,7 +152,7 @@ terms_at bytes = do
   Some (first.0 ∷ others.0, others.1)
 
 abbrev pub fitting : List Term → Option (List Term)
-fitting terms = if fit terms then Some terms else None
+fitting terms = if is_polynomial terms then Some terms else None
 
 unfoldable pub poly_at : List ℕ → Option (List Term × List ℕ)
 poly_at bytes = elim (after (codes "0") bytes) [

@@ -6,7 +6,7 @@ ghost use Rattle.cert_text.specs.Reading.{Gives, exponent_at, factor_at, factors
 use crate::fail::TextFail;
 use crate::number::{number, positive};
 use crate::word::strip;
-use mm_poly::Mono;
+use mm_poly::{Factors, Mono};
 use smallvec::SmallVec;
 use std::alloc::Global;
 
@@ -43,7 +43,7 @@ fn factor(bytes: &[u8]) -> Result<((u32, u8), &[u8]), TextFail>
 
 // Factors, one after the other.
 #[tactic(auto, unfolding(crate::specs::Reading::factors_at))]
-fn factors(alloc: Global, bytes: &[u8]) -> Result<(SmallVec<(u32, u8), 4>, &[u8]), TextFail>
+fn factors(alloc: Global, bytes: &[u8]) -> Result<(Factors, &[u8]), TextFail>
     ensures { Gives (λ x. (x.0.items, x.1.now)) result (factors_at bytes.now) }
 {
     let (first, mut rest) = factor(bytes)?;
@@ -61,7 +61,7 @@ fn factors(alloc: Global, bytes: &[u8]) -> Result<(SmallVec<(u32, u8), 4>, &[u8]
 }
 
 // The monomial with these factors, where the variables rise and the exponents sum to at most 255.
-fn with_factors(factors: SmallVec<(u32, u8), 4>) -> Result<Mono, TextFail>
+fn with_factors(factors: Factors) -> Result<Mono, TextFail>
     ensures { Gives (λ m. m) result (rising factors.items) }
 {
     Mono::from_factors(factors).ok_or(TextFail::Bad)

@@ -19,7 +19,8 @@ fn terms(alloc: Global, bytes: &[u8]) -> Result<(Vec<Term>, &[u8]), TextFail>
 {
     let (negative, rest) = first_sign(bytes);
     let (first, mut rest) = term(alloc, negative, rest)?;
-    let mut terms = Vec::new(alloc);
+    // Many polynomials have but one term.
+    let mut terms = Vec::with_capacity(alloc, 1)?;
     terms.push(first)?;
     for _ in 0..MOST_TERMS {
         let Some((negative, after)) = next_sign(rest) else {
