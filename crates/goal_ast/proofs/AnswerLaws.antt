@@ -1,6 +1,7 @@
 -- What each answer of an evaluation says.
 use Rattle.std.specs.Prelude.{◌≡◌, ◌↔◌, Bool, true, false, refl, Option}
 use Rattle.std.proofs.Common.{sym, subst}
+use Rattle.mm_num.proofs.BoolLaws.{never}
 use Rattle.goal_ast.specs.declared.types.Eval.{Eval}
 use Rattle.goal_ast.specs.declared.types.Eval.TheVariants as answers
 use Rattle.goal_ast.specs.declared.formula.Formula.{Formula}
@@ -10,9 +11,6 @@ use Rattle.goal_ast.proofs.TruthLaws.{truth_agrees}
 
 abbrev pub Reads : Eval → Bool → Bool → Type 0
 Reads r s b = ((r ≡ answers.Big) ↔ (s ≡ true → ⊥)) × ((r ≡ answers.True) ↔ ((s ≡ true) × (b ≡ true))) × ((r ≡ answers.False) ↔ ((s ≡ true) × (b ≡ true → ⊥)))
-
-never : {P : Type 0} → false ≡ true → P
-never h = cc
 
 reads : (s b : Bool) → Reads (answer (only_if s b)) s b
 reads true true = ((λ e. absurd (cc), λ h. absurd (h refl)), (λ e. (refl, refl), λ h. refl), (λ e. absurd (cc), λ h. absurd (h.1 refl)))

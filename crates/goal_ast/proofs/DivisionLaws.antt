@@ -3,6 +3,7 @@ use Rattle.std.specs.Prelude.{◌≡◌, ℤ, pos, negsuc, Bool, true, false, no
 use Rattle.std.proofs.Common.{arith}
 use Rattle.std.proofs.lemmas.Int.{ints}
 use Rattle.std.specs.Ordering.{int_eq}
+use Rattle.std.proofs.lemmas.Bool.{and_parts}
 use Rattle.mm_num.specs.Quotient.{floor_quotient}
 use Rattle.mm_num.proofs.Ring.{neg_mul}
 use Rattle.mm_num.specs.Small.{IsSmall}
@@ -25,12 +26,6 @@ pub remainder_down : (a k : ℤ) → k <ℤ pos 0 → remainder a k ≡ neg_ℤ 
 remainder_down a (pos n) h = absurd (omega (arith, ints))
 remainder_down a (negsuc n) h = negated a (negsuc n) (quotient a (negsuc n))
 
--- both of two tests
-pub both : (a b : Bool) → (a && b) ≡ true → (a ≡ true) × (b ≡ true)
-both true true h = (refl, refl)
-both true false h = absurd (cc)
-both false b h = absurd (cc)
-
 pub small_is : (z : ℤ) → is_small z ≡ true → IsSmall z
 small_is z h = grind arith
 
@@ -39,11 +34,11 @@ small_test z h = grind arith
 
 pub divisor_small : (k : ℤ) → divisor_fits k ≡ true → IsSmall k
 unfolding divisor_fits
-divisor_small k h = small_is k (both _ _ h).0
+divisor_small k h = small_is k (and_parts _ _ h).0
 
 other : (k : ℤ) → not (int_eq k (pos 0)) ≡ true → k ≢ pos 0
 other k h = λ e. grind (arith, ints)
 
 pub divisor_other : (k : ℤ) → divisor_fits k ≡ true → k ≢ pos 0
 unfolding divisor_fits
-divisor_other k h = other k (both _ _ h).1
+divisor_other k h = other k (and_parts _ _ h).1

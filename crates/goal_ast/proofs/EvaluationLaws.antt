@@ -1,13 +1,15 @@
 -- A term has a result exactly where the value of each subterm is small, and the result is its value.
 use Rattle.std.specs.Prelude.{◌≡◌, ℤ, neg_ℤ, ◌+ℤ◌, ◌-ℤ◌, ◌*ℤ◌, unsigned_abs, Bool, true, false, ◌&&◌, refl, Option}
 use Rattle.std.proofs.Common.{ap, ◌∙◌, subst}
+use Rattle.mm_num.specs.Power.{power}
+use Rattle.mm_num.specs.Option.{◌>>=◌}
 use Rattle.goal_ast.specs.declared.term.Term.{Term}
 use Rattle.goal_ast.specs.declared.term.Term.TheOpen.{Term-F}
 use Rattle.goal_ast.specs.declared.term.Term.TheViews.{roll-Term}
 use Rattle.goal_ast.specs.declared.term.Term.TheFolds.{map-Term, fold-roll-Term, ind-Term}
-use Rattle.goal_ast.specs.Truth.{Point, power, quotient, remainder, stopped, call_1, call_2, value_level, value_of}
+use Rattle.goal_ast.specs.Truth.{Point, quotient, remainder, stopped, call_1, call_2, value_level, value_of}
 use Rattle.goal_ast.specs.Sorted.{is_small}
-use Rattle.goal_ast.specs.Evaluation.{◌>>=◌, only_if, checked, evaluated_level, evaluated, Valued, valued_level, valued, all_small}
+use Rattle.goal_ast.specs.Evaluation.{only_if, checked, evaluated_level, evaluated, Valued, valued_level, valued, all_small}
 
 -- one part with its result, and what is made of it
 pub one_part : (f : ℤ → ℤ) (o : Option ℤ) (s : Bool) (z : ℤ) → o ≡ only_if s z → (o >>= λ v. checked (f v)) ≡ only_if (s && is_small (f z)) (f z)

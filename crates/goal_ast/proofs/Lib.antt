@@ -5,3 +5,7 @@ pub mod TruthLaws
 pub mod SortedLaws
 pub mod FittingLaws
 pub mod AnswerLaws
+pub mod VariableLaws
+pub mod CountingLaws
+pub mod EqualityLaws
+pub mod SendLaws

@@ -2,7 +2,7 @@
 use Rattle.std.specs.Prelude.{◌≡◌, ℕ, zero, suc, ◌+◌, ◌-◌, ◌*◌, ◌%◌, ◌^◌, ◌<◌, ◌≤◌, ℤ, pos, negsuc, ◌*ℤ◌, unsigned_abs, Bool, true, false, refl, None}
 use Rattle.std.proofs.Common.{ap, sym, ◌∙◌, subst, arith}
 use Rattle.std.proofs.lemmas.Int.{ints, unsigned_abs-mul}
-use Rattle.goal_ast.specs.Truth.{power}
+use Rattle.mm_num.specs.Power.{power}
 use Rattle.goal_ast.specs.Sorted.{is_small}
 use Rattle.goal_ast.specs.Evaluation.{only_if, checked}
 

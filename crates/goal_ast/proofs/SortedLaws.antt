@@ -3,6 +3,7 @@ use Rattle.std.specs.Prelude.{◌≡◌, ℤ, pos, Bool, true, false, not, ◌&&
 use Rattle.std.specs.Ordering.{int_eq}
 use Rattle.std.proofs.Common.{ap, sym, ◌∙◌, subst, arith}
 use Rattle.std.proofs.lemmas.Int.{ints}
+use Rattle.std.proofs.lemmas.Bool.{and_parts, and_from}
 use Rattle.goal_ast.specs.declared.term.Sort.{Sort}
 use Rattle.goal_ast.specs.declared.term.Sort.TheVariants as sorts
 use Rattle.goal_ast.specs.declared.term.Term.{Term}
@@ -21,29 +22,25 @@ use Rattle.goal_ast.specs.declared.goal.Goal.{Goal}
 use Rattle.goal_ast.specs.Range.{sorts_of}
 use Rattle.goal_ast.specs.Sorted.{is_small, Sorting, Fitting, divides_on, sort_level, has_sort, argument_1, both_have, compare_well, three_have, chain_well, bool_sort_level, is_bool, formula_sort_level, is_sorted, literal_level, literals_small, bool_literal_level, bool_literals_small, formula_literal_level, formula_literals_small, IsWellFormed}
 use Rattle.goal_ast.specs.Divisors.{divisor_fits, divisor_level, divisors_fit, bool_divisor_level, bool_divisors_fit, formula_divisor_level, formula_divisors_fit}
-use Rattle.goal_ast.proofs.DivisionLaws.{both}
-
-pub join : (a b : Bool) → a ≡ true → b ≡ true → (a && b) ≡ true
-join a b h k = rw (h, k) refl
 
 -- what holds in four cases
-any_of : {P : Type 0} → (a b c d : Bool) → ((a || b) || (c || d)) ≡ true → (a ≡ true → P) → (b ≡ true → P) → (c ≡ true → P) → (d ≡ true → P) → P
+pub any_of : {P : Type 0} → (a b c d : Bool) → ((a || b) || (c || d)) ≡ true → (a ≡ true → P) → (b ≡ true → P) → (c ≡ true → P) → (d ≡ true → P) → P
 any_of true b c d h p q r s = p refl
 any_of false true c d h p q r s = q refl
 any_of false false true d h p q r s = r refl
 any_of false false false true h p q r s = s refl
 any_of false false false false h p q r s = absurd (cc)
 
-not_0 : (s : Sort) (k : ℤ) → divides_on s k ≡ true → not (int_eq k (pos 0)) ≡ true
+pub not_0 : (s : Sort) (k : ℤ) → divides_on s k ≡ true → not (int_eq k (pos 0)) ≡ true
 not_0 sorts.Int k h = h
 not_0 sorts.Bin k h = grind (arith, ints)
 not_0 sorts.Nat k h = grind (arith, ints)
 not_0 sorts.Pos k h = absurd (cc)
 not_0 sorts.Bool k h = absurd (cc)
 
-fits : (s : Sort) (k : ℤ) → divides_on s k ≡ true → is_small k ≡ true → divisor_fits k ≡ true
+pub fits : (s : Sort) (k : ℤ) → divides_on s k ≡ true → is_small k ≡ true → divisor_fits k ≡ true
 unfolding divisor_fits
-fits s k h l = join _ _ l (not_0 s k h)
+fits s k h l = and_from _ _ l (not_0 s k h)
 
 abbrev pub TermFits : Term → Type 0
 TermFits t = (vars : List Sort) (s : Sort) → has_sort t vars s ≡ true → literals_small t ≡ true → divisors_fit t ≡ true
@@ -56,25 +53,25 @@ terms_of y = map-Term Known Term (λ p. p.0) y
 
 pair_fits : (a b : Known) (vars : List Sort) (s : Sort) → (has_sort a.0 vars s && has_sort b.0 vars s) ≡ true → (literals_small a.0 && literals_small b.0) ≡ true
     → (divisors_fit a.0 && divisors_fit b.0) ≡ true
-pair_fits a b vars s h l = let p = both _ _ h in let q = both _ _ l in join _ _ (a.1 vars s p.0 q.0) (b.1 vars s p.1 q.1)
+pair_fits a b vars s h l = let p = and_parts _ _ h in let q = and_parts _ _ l in and_from _ _ (a.1 vars s p.0 q.0) (b.1 vars s p.1 q.1)
 
 divided_fits : (a : Known) (k : ℤ) (vars : List Sort) (s : Sort) → (has_sort a.0 vars s && divides_on s k) ≡ true → (literals_small a.0 && is_small k) ≡ true
     → (divisors_fit a.0 && divisor_fits k) ≡ true
-divided_fits a k vars s h l = let p = both _ _ h in let q = both _ _ l in join _ _ (a.1 vars s p.0 q.0) (fits s k p.1 q.1)
+divided_fits a k vars s h l = let p = and_parts _ _ h in let q = and_parts _ _ l in and_from _ _ (a.1 vars s p.0 q.0) (fits s k p.1 q.1)
 
 level : (y : Term-F Known) (vars : List Sort) (s : Sort) → sort_level (map-Term Term Sorting has_sort (terms_of y)) vars s ≡ true
     → literal_level (map-Term Term Bool literals_small (terms_of y)) ≡ true → divisor_level (map-Term Term Bool divisors_fit (terms_of y)) ≡ true
 level (Term-F.Lit n) vars s h l = refl
 level (Term-F.Var v) vars s h l = refl
-level (Term-F.Neg a) vars s h l = a.1 vars sorts.Int (both _ _ h).1 l
+level (Term-F.Neg a) vars s h l = a.1 vars sorts.Int (and_parts _ _ h).1 l
 level (Term-F.Add a b) vars s h l = pair_fits a b vars s h l
-level (Term-F.Sub t a b) vars s h l = pair_fits a b vars s (both _ _ h).1 l
+level (Term-F.Sub t a b) vars s h l = pair_fits a b vars s (and_parts _ _ h).1 l
 level (Term-F.Mul a b) vars s h l = pair_fits a b vars s h l
-level (Term-F.Pow a k) vars s h l = a.1 vars s (both _ _ h).0 (both _ _ l).0
+level (Term-F.Pow a k) vars s h l = a.1 vars s (and_parts _ _ h).0 (and_parts _ _ l).0
 level (Term-F.Div a k) vars s h l = divided_fits a k vars s h l
 level (Term-F.Rem a k) vars s h l = divided_fits a k vars s h l
-level (Term-F.Call1 f a) vars s h l = a.1 vars (argument_1 f) (both _ _ h).1 l
-level (Term-F.Call2 f a b) vars s h l = pair_fits a b vars s (both _ _ h).1 l
+level (Term-F.Call1 f a) vars s h l = a.1 vars (argument_1 f) (and_parts _ _ h).1 l
+level (Term-F.Call2 f a b) vars s h l = pair_fits a b vars s (and_parts _ _ h).1 l
 
 pub term_fits : (t : Term) → TermFits t
 term_fits = ind-Term TermFits (λ d y q. subst (λ (z : Term-F Term). TermFits (roll-Term z)) q (step y))
@@ -87,7 +84,7 @@ term_fits = ind-Term TermFits (λ d y q. subst (λ (z : Term-F Term). TermFits (
         c ∙ level y vars s (sym a ∙ h) (sym b ∙ l)
 
 two_fit : (t u : Term) (vars : List Sort) (s : Sort) → both_have t u vars s ≡ true → (literals_small t && literals_small u) ≡ true → (divisors_fit t && divisors_fit u) ≡ true
-two_fit t u vars s h l = let p = both _ _ h in let q = both _ _ l in join _ _ (term_fits t vars s p.0 q.0) (term_fits u vars s p.1 q.1)
+two_fit t u vars s h l = let p = and_parts _ _ h in let q = and_parts _ _ l in and_from _ _ (term_fits t vars s p.0 q.0) (term_fits u vars s p.1 q.1)
 
 compared_fit : (t u : Term) (vars : List Sort) → compare_well t u vars ≡ true → (literals_small t && literals_small u) ≡ true → (divisors_fit t && divisors_fit u) ≡ true
 compared_fit t u vars h l = any_of _ _ _ _ h (λ e. two_fit t u vars sorts.Int e l) (λ e. two_fit t u vars sorts.Bin e l)
@@ -95,7 +92,7 @@ compared_fit t u vars h l = any_of _ _ _ _ h (λ e. two_fit t u vars sorts.Int e
 
 three_fit : (t u v : Term) (vars : List Sort) (s : Sort) → three_have t u v vars s ≡ true → (literals_small t && (literals_small u && literals_small v)) ≡ true
     → (divisors_fit t && (divisors_fit u && divisors_fit v)) ≡ true
-three_fit t u v vars s h l = let p = both _ _ h in let q = both _ _ l in join _ _ (term_fits t vars s p.0 q.0) (two_fit u v vars s p.1 q.1)
+three_fit t u v vars s h l = let p = and_parts _ _ h in let q = and_parts _ _ l in and_from _ _ (term_fits t vars s p.0 q.0) (two_fit u v vars s p.1 q.1)
 
 chain_fits : (t u v : Term) (vars : List Sort) → chain_well t u v vars ≡ true → (literals_small t && (literals_small u && literals_small v)) ≡ true
     → (divisors_fit t && (divisors_fit u && divisors_fit v)) ≡ true
@@ -104,7 +101,7 @@ chain_fits t u v vars h l = any_of _ _ _ _ h (λ e. three_fit t u v vars sorts.I
 
 -- two parts that fit
 joined : (s t m n f g : Bool) → (s ≡ true → m ≡ true → f ≡ true) → (t ≡ true → n ≡ true → g ≡ true) → (s && t) ≡ true → (m && n) ≡ true → (f && g) ≡ true
-joined s t m n f g a b h l = let p = both _ _ h in let q = both _ _ l in join _ _ (a p.0 q.0) (b p.1 q.1)
+joined s t m n f g a b h l = let p = and_parts _ _ h in let q = and_parts _ _ l in and_from _ _ (a p.0 q.0) (b p.1 q.1)
 
 abbrev pub BoolFits : BTerm → Type 0
 BoolFits b = (vars : List Sort) → is_bool b vars ≡ true → bool_literals_small b ≡ true → bool_divisors_fit b ≡ true
@@ -151,7 +148,7 @@ formula_step : (y : Formula-F KnownFormula) (vars : List Sort) → formula_sort_
 formula_step Formula-F.True vars h l = refl
 formula_step Formula-F.False vars h l = refl
 formula_step (Formula-F.Atom c t u) vars h l = compared_fit t u vars h l
-formula_step (Formula-F.Chain t c u d v) vars h l = chain_fits t u v vars h l
+formula_step (Formula-F.Chain t c u d v) vars h l = chain_fits t u v vars (and_parts _ _ h).1 l
 formula_step (Formula-F.Same b c) vars h l = joined _ _ _ _ _ _ (bool_fits b vars) (bool_fits c vars) h l
 formula_step (Formula-F.Differ b c) vars h l = joined _ _ _ _ _ _ (bool_fits b vars) (bool_fits c vars) h l
 formula_step (Formula-F.Not f) vars h l = f.1 vars h l

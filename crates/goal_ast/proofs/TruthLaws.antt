@@ -1,6 +1,7 @@
 -- A formula has a result exactly where the value of each subterm is small, and the result is its truth.
 use Rattle.std.specs.Prelude.{◌≡◌, Bool, true, false, not, ◌&&◌, ◌||◌, refl, Option, Some}
 use Rattle.std.proofs.Common.{subst}
+use Rattle.mm_num.specs.Option.{◌>>=◌}
 use Rattle.goal_ast.specs.declared.formula.BTerm.{BTerm}
 use Rattle.goal_ast.specs.declared.formula.BTerm.TheOpen.{BTerm-F}
 use Rattle.goal_ast.specs.declared.formula.BTerm.TheViews.{roll-BTerm}
@@ -10,7 +11,7 @@ use Rattle.goal_ast.specs.declared.formula.Formula.TheOpen.{Formula-F}
 use Rattle.goal_ast.specs.declared.formula.Formula.TheViews.{roll-Formula}
 use Rattle.goal_ast.specs.declared.formula.Formula.TheFolds.{map-Formula, fold-roll-Formula, ind-Formula}
 use Rattle.goal_ast.specs.Truth.{Point, compare, test, same, call_bool, bool_level, bool_of, truth_level, truth_of}
-use Rattle.goal_ast.specs.Evaluation.{◌>>=◌, only_if, bool_evaluated_level, bool_evaluated, truth_evaluated_level, truth_evaluated, bool_small_level, bool_all_small, formula_small_level, formula_all_small}
+use Rattle.goal_ast.specs.Evaluation.{only_if, bool_evaluated_level, bool_evaluated, truth_evaluated_level, truth_evaluated, bool_small_level, bool_all_small, formula_small_level, formula_all_small}
 use Rattle.goal_ast.proofs.EvaluationLaws.{evaluated_is}
 
 -- one part with its result, and what is made of it

@@ -1,6 +1,8 @@
 -- Evaluation with small numbers alone: it has no result where the value of some subterm isn't small, also where the
 -- result doesn't depend on it.
 use Rattle.std.specs.Prelude.{◌≡◌, ℤ, pos, neg_ℤ, ◌+ℤ◌, ◌-ℤ◌, ◌*ℤ◌, int_le, unsigned_abs, Bool, true, false, not, ◌&&◌, ◌||◌, Option, Some, None}
+use Rattle.mm_num.specs.Power.{power}
+use Rattle.mm_num.specs.Option.{◌>>=◌}
 use Rattle.mm_num.specs.Small.{IsSmall}
 use Rattle.goal_ast.specs.declared.types.Eval.{Eval}
 use Rattle.goal_ast.specs.declared.types.Eval.TheVariants as answers
@@ -14,13 +16,8 @@ use Rattle.goal_ast.specs.declared.formula.BTerm.TheFolds.{fold-BTerm}
 use Rattle.goal_ast.specs.declared.formula.Formula.{Formula}
 use Rattle.goal_ast.specs.declared.formula.Formula.TheOpen.{Formula-F}
 use Rattle.goal_ast.specs.declared.formula.Formula.TheFolds.{fold-Formula}
-use Rattle.goal_ast.specs.Truth.{Point, power, quotient, remainder, stopped, call_1, call_2, compare, test, same, call_bool, value_level}
+use Rattle.goal_ast.specs.Truth.{Point, quotient, remainder, stopped, call_1, call_2, compare, test, same, call_bool, value_level}
 use Rattle.goal_ast.specs.Sorted.{is_small}
-
-infixl 10 ◌>>=◌
-abbrev pub ◌>>=◌ : {A B : Type 0} → Option A → (A → Option B) → Option B
-(Some x) >>= f = f x
-None >>= f = None
 
 -- what there is where a test holds
 abbrev pub only_if : {A : Type 0} → Bool → A → Option A

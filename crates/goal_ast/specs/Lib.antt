@@ -4,3 +4,5 @@ pub mod Sorted
 pub mod Fitting
 pub mod Divisors
 pub mod Evaluation
+pub mod Variables
+pub mod Equality

@@ -1,4 +1,5 @@
--- Goals that are well formed: each node has a sort, the numbers written in it are small, and it isn't too large.
+-- Goals that are well formed: each node has a sort, chains rise, the numbers written in it are small, and it isn't too
+-- large.
 use Rattle.std.specs.Prelude.{◌≡◌, ◌≢◌, ℕ, ◌+◌, ◌^◌, ◌<◌, ◌≤◌, ℤ, pos, int_le, nat_lt, unsigned_abs, List, [], ◌∷◌, length, map, Bool, true, false, not, ◌&&◌, ◌||◌, slice_get}
 use Rattle.std.specs.Ordering.{int_eq}
 use Rattle.std.specs.List.{AllByRecursion}
@@ -12,6 +13,8 @@ use Rattle.goal_ast.specs.declared.term.Fn2.TheVariants.{ZMin, ZMax, NatMin, Nat
 use Rattle.goal_ast.specs.declared.term.Term.{Term}
 use Rattle.goal_ast.specs.declared.term.Term.TheOpen.{Term-F}
 use Rattle.goal_ast.specs.declared.term.Term.TheFolds.{fold-Term}
+use Rattle.goal_ast.specs.declared.formula.Cmp.{Cmp}
+use Rattle.goal_ast.specs.declared.formula.Cmp.TheVariants as cmps
 use Rattle.goal_ast.specs.declared.formula.BTerm.{BTerm}
 use Rattle.goal_ast.specs.declared.formula.BTerm.TheOpen.{BTerm-F}
 use Rattle.goal_ast.specs.declared.formula.BTerm.TheFolds.{fold-BTerm}
@@ -154,11 +157,17 @@ bool_sort_level (BTerm-F.Call f a b) vars = a vars && b vars
 abbrev pub is_bool : BTerm → Fitting
 is_bool = fold-BTerm Fitting bool_sort_level
 
+-- the comparisons of which two stand in a chain
+abbrev pub makes_chain : Cmp → Bool
+makes_chain cmps.Lt = true
+makes_chain cmps.Le = true
+makes_chain c = false
+
 abbrev pub formula_sort_level : Formula-F Fitting → Fitting
 formula_sort_level Formula-F.True vars = true
 formula_sort_level Formula-F.False vars = true
 formula_sort_level (Formula-F.Atom c t u) vars = compare_well t u vars
-formula_sort_level (Formula-F.Chain t c u d v) vars = chain_well t u v vars
+formula_sort_level (Formula-F.Chain t c u d v) vars = (makes_chain c && makes_chain d) && chain_well t u v vars
 formula_sort_level (Formula-F.Same b c) vars = is_bool b vars && is_bool c vars
 formula_sort_level (Formula-F.Differ b c) vars = is_bool b vars && is_bool c vars
 formula_sort_level (Formula-F.Not f) vars = f vars

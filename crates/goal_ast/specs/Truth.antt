@@ -2,6 +2,7 @@
 use Rattle.std.specs.Prelude.{◌≡◌, ℕ, zero, suc, ℤ, pos, negsuc, neg_ℤ, ◌+ℤ◌, ◌-ℤ◌, ◌*ℤ◌, unsigned_abs, Bool, true, false, not, ◌&&◌, ◌||◌, int_lt, int_le}
 use Rattle.std.specs.Ordering.{int_eq}
 use Rattle.std.specs.Int.{int_max, int_min}
+use Rattle.mm_num.specs.Power.{power}
 use Rattle.mm_num.specs.Quotient.{floor_by}
 use Rattle.goal_ast.specs.declared.term.Sort.{Sort}
 use Rattle.goal_ast.specs.declared.term.Sort.TheVariants as sorts
@@ -28,10 +29,6 @@ use Rattle.goal_ast.specs.declared.formula.Formula.TheFolds.{fold-Formula}
 -- an assignment gives each variable an integer; a bool is 0 or 1
 abbrev pub Point : Type 0
 Point = ℕ → ℤ
-
-abbrev pub power : ℤ → ℕ → ℤ
-power z zero = pos 1
-power z (suc n) = z *ℤ power z n
 
 -- Z.div rounds towards minus infinity
 abbrev pub quotient : ℤ → ℤ → ℤ

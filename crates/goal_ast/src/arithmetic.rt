@@ -1,6 +1,7 @@
 ghost use Rattle.std.specs.Prelude.{◌≡◌, ◌≢◌, ◌≤◌, ◌-ℤ◌, ◌*ℤ◌, ◌≤ℤ◌, pos, negsuc, unsigned_abs};
 ghost use Rattle.mm_num.specs.Small.{IsSmall};
-ghost use Rattle.goal_ast.specs.Truth.{power, quotient, remainder, stopped, sign, call_1, call_2};
+ghost use Rattle.goal_ast.specs.Truth.{quotient, remainder, stopped, sign, call_1, call_2};
+ghost use Rattle.mm_num.specs.Power.{power};
 ghost use Rattle.goal_ast.specs.Sorted.{is_small};
 ghost use Rattle.goal_ast.specs.Evaluation.{checked, SmallIfAny};
 

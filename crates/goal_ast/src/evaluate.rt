@@ -1,6 +1,7 @@
 ghost use Rattle.std.specs.Prelude.{◌≡◌, true, not, neg_ℤ, ◌+ℤ◌, ◌-ℤ◌, ◌*ℤ◌, ◌&&◌, ◌||◌, unsigned_abs};
 ghost use Rattle.goal_ast.specs.Range.{point_of};
-ghost use Rattle.goal_ast.specs.Truth.{power, quotient, remainder, stopped, call_1, call_2, compare, test, same, call_bool};
+ghost use Rattle.goal_ast.specs.Truth.{quotient, remainder, stopped, call_1, call_2, compare, test, same, call_bool};
+ghost use Rattle.mm_num.specs.Power.{power};
 ghost use Rattle.goal_ast.specs.Divisors.{divisor_fits, divisors_fit, bool_divisors_fit, formula_divisors_fit};
 ghost use Rattle.goal_ast.specs.Evaluation.{SmallIfAny, of_one, of_two, checked_one, checked_two, chain_of, evaluated, bool_evaluated, truth_evaluated};
 

@@ -19,8 +19,8 @@ mod types;
 pub use formula::{BCmp, BFn, BTerm, Cmp, Formula};
 pub use goal::{Assignment, Bound, Goal, Mode, Name};
 pub use judge::{eval, in_range};
-pub use law::strictness;
-pub use term::{Fn1, Fn2, Sort, Term};
+pub use law::{bound_variables, equality, strictness};
+pub use term::{Fn1, Fn2, Operator, Sort, Term};
 pub use types::Eval;
 
 #[cfg(test)]

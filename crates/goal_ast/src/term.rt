@@ -1,7 +1,7 @@
 use sqlite_items::Boxed;
 
 /// The sort of a variable or a term.
-#[derive(Clone, Copy, Debug, PartialEq, Eq)]
+#[derive(Clone, Copy, Debug, PartialEq, Eq, Hash)]
 pub enum Sort {
     /// `Z`, the integers.
     Int,
@@ -16,7 +16,7 @@ pub enum Sort {
 }
 
 /// A function of one argument.
-#[derive(Clone, Copy, Debug, PartialEq, Eq)]
+#[derive(Clone, Copy, Debug, PartialEq, Eq, Hash)]
 pub enum Fn1 {
     /// `Z.succ`
     ZSucc,
@@ -53,7 +53,7 @@ pub enum Fn1 {
 }
 
 /// A function of two arguments.
-#[derive(Clone, Copy, Debug, PartialEq, Eq)]
+#[derive(Clone, Copy, Debug, PartialEq, Eq, Hash)]
 pub enum Fn2 {
     /// `Z.min`
     ZMin,
@@ -98,4 +98,20 @@ pub enum Term {
     Call1(Fn1, Boxed<Term>),
     /// A function of two arguments.
     Call2(Fn2, Boxed<Term>, Boxed<Term>),
+}
+
+/// What stands at a node of a term beside its parts: the operator, with the number, sort or function that it has.
+#[derive(Clone, Copy, Debug, PartialEq, Eq, Hash)]
+pub enum Operator {
+    Lit(i128),
+    Var(u32),
+    Neg,
+    Add,
+    Sub(Sort),
+    Mul,
+    Pow(i128),
+    Div(i128),
+    Rem(i128),
+    Call1(Fn1),
+    Call2(Fn2),
 }

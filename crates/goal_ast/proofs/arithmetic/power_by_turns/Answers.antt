@@ -1,6 +1,6 @@
 use Rattle.std.proofs.Common.{◌≡◌, ◌<◌, ◌*ℤ◌, arith, ap, sym, ◌∙◌, None, to_z-of_z}
 use Rattle.std.proofs.lemmas.Grind.{common_steps}
-use Rattle.goal_ast.specs.Truth.{power}
+use Rattle.mm_num.specs.Power.{power}
 use Rattle.goal_ast.specs.Evaluation.{checked}
 use Rattle.goal_ast.proofs.PowerLaws.{power_ends}
 use Rattle.goal_ast.proofs.arithmetic.power_by_turns.Goals as goal

@@ -1,5 +1,5 @@
 use Rattle.std.proofs.Common.{◌≡◌}
-use Rattle.goal_ast.specs.Truth.{power}
+use Rattle.mm_num.specs.Power.{power}
 use Rattle.goal_ast.proofs.arithmetic.power_by_turns.Given as goal
 
 -- the power by the turns so far
