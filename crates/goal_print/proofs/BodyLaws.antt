@@ -13,7 +13,7 @@ use Rattle.goal_ast.specs.declared.formula.BTerm.{BTerm}
 use Rattle.goal_ast.specs.declared.formula.Formula.{Formula}
 use Rattle.goal_ast.specs.declared.goal.Name.{Name}
 use Rattle.goal_ast.specs.declared.goal.Bound.{Bound}
-use Rattle.goal_ast.specs.Sorted.{argument_1, sort_2}
+use Rattle.goal_ast.specs.Sorted.{argument_1, sort_2, makes_chain}
 use Rattle.goal_token.specs.declared.token.Constant.TheVariants as constants
 use Rattle.goal_token.specs.declared.token.Function.TheVariants as functions
 use Rattle.goal_token.specs.declared.token.Sign.TheVariants as signs
@@ -26,7 +26,6 @@ use Rattle.goal_sort.specs.declared.operator.Arithmetic.TheVariants as arithmeti
 use Rattle.goal_sort.specs.declared.operator.ByLiteral.TheVariants as literals
 use Rattle.goal_sort.specs.declared.operator.BoolOperator.TheVariants as operators
 use Rattle.goal_sort.specs.declared.operator.Connective.TheVariants as connectives
-use Rattle.goal_sort.specs.Heads.{makes_chain}
 use Rattle.goal_sort.specs.Kinds.{Kind, fixed, within, difference_on}
 use Rattle.goal_sort.specs.Sorting.{bound_from, variable_of}
 use Rattle.goal_sort.specs.IsSorted.{IsNumber, IsTruth, IsStatement, node}

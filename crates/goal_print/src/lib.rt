@@ -18,6 +18,3 @@ mod term;
 pub use assignment::print_assignment;
 pub use goal::print_goal;
 pub use law::reads_back;
-
-#[cfg(test)]
-mod tests;

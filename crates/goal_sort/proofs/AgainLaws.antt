@@ -3,6 +3,8 @@ use Rattle.std.proofs.Common.{◌≡◌, ℕ, List, [], ◌∷◌, map, Bool, tr
 use Rattle.std.specs.Prelude.{codes, ℤ, pos, neg_ℤ, if◌then◌else◌}
 use Rattle.std.specs.Ordering.{int_eq}
 use Rattle.std.specs.Option.{is_some}
+use Rattle.std.proofs.lemmas.Option.{same_Some}
+use Rattle.mm_num.specs.Result.{◌>>=◌}
 use Rattle.goal_ast.specs.declared.term.Sort.{Sort}
 use Rattle.goal_ast.specs.declared.term.Sort.TheVariants as sorts
 use Rattle.goal_ast.specs.declared.term.Term.{Term}
@@ -18,7 +20,7 @@ use Rattle.goal_ast.specs.declared.term.Fn1.{Fn1}
 use Rattle.goal_ast.specs.declared.term.Fn2.{Fn2}
 use Rattle.goal_ast.specs.declared.goal.Name.{Name}
 use Rattle.goal_ast.specs.declared.goal.Goal.{Goal}
-use Rattle.goal_ast.specs.Sorted.{is_number, argument_1, result_1, sort_2, names_of, AllDiffer}
+use Rattle.goal_ast.specs.Sorted.{is_number, argument_1, result_1, sort_2, names_of, AllDiffer, makes_chain}
 use Rattle.goal_token.specs.declared.token.Constant.{Constant}
 use Rattle.goal_token.specs.declared.token.Constant.TheVariants as constant
 use Rattle.goal_token.specs.Words.{lookup, constants}
@@ -44,15 +46,15 @@ use Rattle.goal_sort.specs.declared.operator.BoolOperator.{BoolOperator}
 use Rattle.goal_sort.specs.declared.operator.Connective.{Connective}
 use Rattle.goal_sort.specs.declared.operator.Binary.{Binary}
 use Rattle.goal_sort.specs.declared.operator.Binary.TheVariants as binary
-use Rattle.goal_sort.specs.SortGiving.{◌>>=◌, Placed, given_at}
+use Rattle.goal_sort.specs.SortGiving.{Placed, given_at}
 use Rattle.goal_sort.specs.Operators.{binary_of, by_literal_of, chain_of}
 use Rattle.goal_sort.specs.SortedNumbers.{as_sort, a_number, a_truth, a_statement, arithmetic, arithmetic_term, opposite, called_1, called_2, by_term, can_stand, can_be_negative, by_literal, by_negative, by_written, provided, test_of, compared_zero, comparison, equality, inequality, chain, two_truths, two_statements, bool_term, connected_formula, unary_node, binary_node, by_node, chain_node, first, statement_of}
 use Rattle.goal_sort.specs.Sorting.{Node, node_level, node_of, written_level, sorted_level, one_operand, both_operands, left_operand, two_operands, three_operands, unary_at, binary_at, chain_at, leaf_node, name_node, bound_node, bound_from, zero_place, variable, constant_node, variable_of, goal_of, body_of, with_body, unless, sorting}
-use Rattle.goal_sort.specs.Heads.{unary_head, literal_head, binary_head, makes_chain, chain_head}
+use Rattle.goal_sort.specs.Heads.{unary_head, literal_head, binary_head, chain_head}
 use Rattle.goal_sort.specs.Kinds.{Kind, free, fixed, together, within, by_kind, arithmetic_of}
 use Rattle.goal_sort.specs.IsSorted as rules
 use Rattle.goal_sort.specs.IsSorted.{node, word, IsNumber, IsTruth, IsStatement, IsSorted}
-use Rattle.goal_sort.proofs.GivingLaws.{some_is, ok_is}
+use Rattle.goal_sort.proofs.GivingLaws.{ok_is}
 use Rattle.goal_sort.proofs.OperatorLaws.{unary_again, literal_again, comparing, comparing_again, arithmetic_again, test_again, bool_again, connective_again, call_again, equal_again, differ_again, chain_again, no_literal}
 use Rattle.goal_sort.proofs.KindLaws.{sort_of, zero_in, number, arithmetic_same, by_again, compared_again}
 use Rattle.goal_sort.proofs.NameLaws.{none_twice}
@@ -111,7 +113,7 @@ gives_by bs op p a b s w h k =
           | None ↦ ((node_of a).sorted bs >>= λ s. (node_of b).sorted bs >>= λ t. binary_at p (literal_head op) s t)
         ] ≡ ((node_of a).sorted bs >>= λ s. by_node p op s (node_of b).written)
     by_literal None e = absurd cc
-    by_literal (Some o) e = ap (λ op. (node_of a).sorted bs >>= λ s. by_node p op s (node_of b).written) (some_is o op e)
+    by_literal (Some o) e = ap (λ op. (node_of a).sorted bs >>= λ s. by_node p op s (node_of b).written) (same_Some o op e)
 
 pub gives_three : (bs : List RawBound) (h : Head) (made : Cmp × Cmp) (p : ℕ) (a b c : RawExpr) (s t u : Sorted) → chain_of h ≡ Some made
     → (node_of a).sorted bs ≡ Ok s → (node_of b).sorted bs ≡ Ok t → (node_of c).sorted bs ≡ Ok u

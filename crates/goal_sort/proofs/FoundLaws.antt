@@ -5,6 +5,8 @@ use Rattle.std.specs.Ordering.{int_eq}
 use Rattle.std.specs.Option.{is_some}
 use Rattle.std.specs.Cmp.Lexicographic.{pointwise, same_text}
 use Rattle.std.proofs.lemmas.Bool.{and_parts, eqb-true}
+use Rattle.std.proofs.lemmas.Option.{same_Some}
+use Rattle.mm_num.specs.Result.{◌>>=◌}
 use Rattle.goal_ast.specs.declared.term.Sort.{Sort}
 use Rattle.goal_ast.specs.declared.term.Sort.TheVariants as sorts
 use Rattle.goal_ast.specs.declared.term.Fn1.{Fn1}
@@ -51,7 +53,7 @@ use Rattle.goal_sort.specs.declared.operator.BoolOperator.{BoolOperator}
 use Rattle.goal_sort.specs.declared.operator.Connective.{Connective}
 use Rattle.goal_sort.specs.declared.operator.Binary.{Binary}
 use Rattle.goal_sort.specs.declared.operator.Binary.TheVariants as binary
-use Rattle.goal_sort.specs.SortGiving.{◌>>=◌, Placed}
+use Rattle.goal_sort.specs.SortGiving.{Placed}
 use Rattle.goal_sort.specs.Operators.{unary_of, binary_of, by_literal_of, chain_of}
 use Rattle.goal_sort.specs.SortedNumbers.{as_sort, joined, all_joined, a_number, a_truth, a_statement, arithmetic, arithmetic_term, opposite, called_1, called_2, by_term, can_stand, can_be_negative, by_sort, by_literal, by_negative, by_written, provided, test_of, compared_zero, comparison, equality, inequality, chain, two_numbers, two_truths, two_statements, both_bools, equal_bools, different_bools, negated_bool, negated_formula, connected, unary_node, binary_node, by_node, chain_node, first, statement_of}
 use Rattle.goal_sort.specs.Sorting.{Node, node_of, written_level, written_minus, sorted_level, one_operand, both_operands, left_operand, two_operands, three_operands, unary_at, binary_at, chain_at, leaf_node, name_node, bound_node, bound_from, zero_place, variable, constant_node, second_binding, goal_of, body_of, with_body, sorting, head_fits, all_true, literals_level, literals_fit}
@@ -59,7 +61,7 @@ use Rattle.goal_sort.specs.Heads.{unary_head, literal_head, binary_head, chain_h
 use Rattle.goal_sort.specs.Kinds.{Kind, free, fixed, together, within, arithmetic_of}
 use Rattle.goal_sort.specs.IsSorted as rules
 use Rattle.goal_sort.specs.IsSorted.{node, literal_fits, IsNumber, IsTruth, IsStatement, IsSorted}
-use Rattle.goal_sort.proofs.GivingLaws.{some_is, ok_is, bind_ok, given_bound, provided_ok, unless_ok, test_some, choice_ok}
+use Rattle.goal_sort.proofs.GivingLaws.{ok_is, bind_ok, given_bound, provided_ok, unless_ok, test_some, choice_ok}
 use Rattle.goal_sort.proofs.OperatorLaws.{unary_is, literal_is, binary_is, IsChain, chain_is}
 use Rattle.goal_sort.proofs.KindLaws.{sort_of, zero_in, AsKind, is_numeric, no_place, place_none, first_parts, arithmetic_same, by_found, by_numeric, argument_number, sort_2_number, compared_kind}
 use Rattle.goal_sort.proofs.JoiningLaws.{joined_found, Taken, TakenAs, as_sort_found, Three, all_joined_found, kind_fixed}
@@ -129,7 +131,7 @@ lookup_is : {A : Type 0} (P : List ℕ → A → Type 0) (text : List ℕ) (x : 
 unfolding AllTexts
 lookup_is P text x [] h is = absurd cc
 lookup_is P text x (e ∷ table) h is = elim (test_some (pointwise nat_eq text e.0) (Some e.1) (lookup text table) x is) [
-  | inl k ↦ subst (λ t. P t x) (sym (same_text text e.0 (sym k.0))) (subst (λ y. P e.0 y) (some_is e.1 x k.1) h.0)
+  | inl k ↦ subst (λ t. P t x) (sym (same_text text e.0 (sym k.0))) (subst (λ y. P e.0 y) (same_Some e.1 x k.1) h.0)
   | inr k ↦ lookup_is P text x table h.1 k.1
 ]
 

@@ -1,12 +1,10 @@
 -- What a step that gave a value says.
 use Rattle.std.proofs.Common.{◌≡◌, ℕ, Bool, true, false, Option, Some, None, Ok, Err, refl, ◌⊎◌, inl, inr}
 use Rattle.std.specs.Prelude.{if◌then◌else◌}
-use Rattle.goal_sort.specs.SortGiving.{◌>>=◌, Placed, given_at}
+use Rattle.mm_num.specs.Result.{◌>>=◌}
+use Rattle.goal_sort.specs.SortGiving.{Placed, given_at}
 use Rattle.goal_sort.specs.SortedNumbers.{provided}
 use Rattle.goal_sort.specs.Sorting.{unless}
-
-pub some_is : {A : Type 0} (x y : A) → Some x ≡ Some y → x ≡ y
-some_is x y e = cc
 
 pub ok_is : {A : Type 0} (x y : A) → ◌≡◌ {A = Placed A} (Ok x) (Ok y) → x ≡ y
 ok_is x y e = cc

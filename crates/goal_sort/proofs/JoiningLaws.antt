@@ -1,6 +1,7 @@
 -- Numbers that join, by their kinds.
 use Rattle.std.proofs.Common.{◌≡◌, ℕ, true, false, Option, Some, None, Ok, refl, sym, ap, ◌∙◌, subst}
 use Rattle.std.specs.Option.{is_some}
+use Rattle.mm_num.specs.Result.{◌>>=◌}
 use Rattle.goal_ast.specs.declared.term.Sort.{Sort}
 use Rattle.goal_ast.specs.declared.term.Term.{Term}
 use Rattle.goal_ast.specs.Sorted.{is_number}
@@ -9,7 +10,7 @@ use Rattle.goal_sort.specs.declared.value.NumberSort.TheVariants.{Free, Fixed}
 use Rattle.goal_sort.specs.declared.value.Number.{Number as ANumber}
 use Rattle.goal_sort.specs.declared.value.Pair.{Pair}
 use Rattle.goal_sort.specs.declared.value.Triple.{Triple}
-use Rattle.goal_sort.specs.SortGiving.{◌>>=◌, given_at}
+use Rattle.goal_sort.specs.SortGiving.{given_at}
 use Rattle.goal_sort.specs.SortedNumbers.{meet, first, settled, compared_zero, as_sort, pair_of, joined, triple_of, all_joined}
 use Rattle.goal_sort.specs.Kinds.{Kind, free, fixed, together, within}
 use Rattle.goal_sort.proofs.GivingLaws.{ok_is, given_bound}

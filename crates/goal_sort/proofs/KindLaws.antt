@@ -3,6 +3,7 @@ use Rattle.std.proofs.Common.{◌≡◌, ℕ, Bool, true, false, Option, Some, N
 use Rattle.std.specs.Prelude.{not, ◌||◌, if◌then◌else◌}
 use Rattle.std.specs.Option.{is_some}
 use Rattle.std.proofs.lemmas.Bool.{and_parts}
+use Rattle.std.proofs.lemmas.Option.{same_Some}
 use Rattle.goal_ast.specs.declared.term.Sort.{Sort}
 use Rattle.goal_ast.specs.declared.term.Sort.TheVariants as sorts
 use Rattle.goal_ast.specs.declared.term.Fn1.{Fn1}
@@ -20,7 +21,6 @@ use Rattle.goal_sort.specs.declared.operator.ByLiteral.{ByLiteral}
 use Rattle.goal_sort.specs.declared.operator.ByLiteral.TheVariants as literals
 use Rattle.goal_sort.specs.SortedNumbers.{taken, meet, positive_zero, first, settled, compared_zero, arithmetic_term, quotient_sort, by_sort}
 use Rattle.goal_sort.specs.Kinds.{Kind, free, fixed, may_take, fixed_if, together, within, divided, by_kind, arithmetic_of}
-use Rattle.goal_sort.proofs.GivingLaws.{some_is}
 use Rattle.goal_sort.proofs.TakingLaws.{one_sort, same_sort}
 
 -- ---- kinds
@@ -97,7 +97,7 @@ settled_within w a m k h e =
     ∙ settled_term m k a.term a.zero
 
 fixed_is : (b : Bool) (s : Sort) (m : Kind) → fixed_if b s ≡ Some m → (b ≡ true) × (fixed s ≡ m)
-fixed_is true s m h = (refl, some_is (fixed s) m h)
+fixed_is true s m h = (refl, same_Some (fixed s) m h)
 fixed_is false s m h = absurd cc
 
 fixed_true : (b : Bool) (s : Sort) → b ≡ true → fixed_if b s ≡ Some (fixed s)
@@ -117,7 +117,7 @@ meets_same : (s t : Sort) → is_sort s t ≡ true → meet (Fixed s) (Fixed t) 
 meets_same s t h = ap (λ (b : Bool). if b then Some (Fixed s) else None) h
 
 pub meet_again : (k l m : Kind) → together k l ≡ Some m → meet (sort_of k) (sort_of l) ≡ Some (sort_of m)
-meet_again (free d y) (free e z) m h = ap (λ k. Some (sort_of k)) (some_is _ m h)
+meet_again (free d y) (free e z) m h = ap (λ k. Some (sort_of k)) (same_Some _ m h)
 meet_again (free d y) (fixed s) m h = let f = fixed_is (may_take d y s) s m h in takes_sort d y s f.0 ∙ ap (λ k. Some (sort_of k)) f.1
 meet_again (fixed s) (free d y) m h = let f = fixed_is (may_take d y s) s m h in takes_sort d y s f.0 ∙ ap (λ k. Some (sort_of k)) f.1
 meet_again (fixed s) (fixed t) m h = let f = fixed_is (is_sort s t) s m h in meets_same s t f.0 ∙ ap (λ k. Some (sort_of k)) f.1
@@ -174,7 +174,7 @@ pub zeros_again : (k l m : Kind) (y z : Option ℕ) → is_some y ≡ zero_in k 
 zeros_again k l (fixed s) y z e f h =
     let p = fixed_parts k l s h in
     first_none (placed (Fixed s) (sort_of k) y) (placed (Fixed s) (sort_of l) z) (placed_none s k y e p.0) (placed_none s l z f p.1)
-zeros_again (free d a) (free e b) (free c x) y z i j h = first_is y z ∙ ap (λ p. p || is_some z) i ∙ ap (λ p. a || p) j ∙ ap zero_in (some_is (free (d || e) (a || b)) (free c x) h)
+zeros_again (free d a) (free e b) (free c x) y z i j h = first_is y z ∙ ap (λ p. p || is_some z) i ∙ ap (λ p. a || p) j ∙ ap zero_in (same_Some (free (d || e) (a || b)) (free c x) h)
 zeros_again (free d a) (fixed s) (free c x) y z i j h = absurd (fixed_not_free s c x (fixed_is (may_take d a s) s (free c x) h).1)
 zeros_again (fixed s) (free d a) (free c x) y z i j h = absurd (fixed_not_free s c x (fixed_is (may_take d a s) s (free c x) h).1)
 zeros_again (fixed s) (fixed t) (free c x) y z i j h = absurd (fixed_not_free s c x (fixed_is (is_sort s t) s (free c x) h).1)
@@ -193,7 +193,7 @@ pub meet_same : (s t : Sort) (w : NumberSort) → meet (Fixed s) (Fixed t) ≡ S
 meet_same s t w h = by_test (is_sort s t) h
   where
     by_test : (b : Bool) → (if b then Some (Fixed s) else None) ≡ Some w → (b ≡ true) × (Fixed s ≡ w)
-    by_test true h = (refl, some_is (Fixed s) w h)
+    by_test true h = (refl, same_Some (Fixed s) w h)
     by_test false h = absurd cc
 
 -- what joins with a sort has it
@@ -202,7 +202,7 @@ meet_fixed s (Free d) w h = numeric_takes d s w h
 meet_fixed s (Fixed t) w h = (meet_same s t w h).1
 
 pub meet_numeric : (p q w : NumberSort) → is_numeric p ≡ true → is_numeric q ≡ true → meet p q ≡ Some w → is_numeric w ≡ true
-meet_numeric (Free d) (Free e) w h k is = ap is_numeric (sym (some_is (Free (d || e)) w is))
+meet_numeric (Free d) (Free e) w h k is = ap is_numeric (sym (same_Some (Free (d || e)) w is))
 meet_numeric (Free d) (Fixed s) w h k is = ap is_numeric (sym (numeric_takes d s w is)) ∙ k
 meet_numeric (Fixed s) q w h k is = ap is_numeric (sym (meet_fixed s q w is)) ∙ h
 
@@ -286,15 +286,15 @@ arithmetic_same arithmetics.Difference (free d y) t u = refl
 arithmetic_same arithmetics.Difference (fixed s) t u = refl
 
 divided_again : (k m : Kind) → divided k ≡ Some m → (quotient_sort (sort_of k) ≡ Some (sort_of m)) × (zero_in k ≡ zero_in m)
-divided_again (free d y) m h = let e = some_is (free true y) m h in (ap (λ k. Some (sort_of k)) e, ap zero_in e)
+divided_again (free d y) m h = let e = same_Some (free true y) m h in (ap (λ k. Some (sort_of k)) e, ap zero_in e)
 divided_again (fixed sorts.Pos) m h = absurd cc
-divided_again (fixed sorts.Int) m h = let e = some_is (fixed sorts.Int) m h in (ap (λ k. Some (sort_of k)) e, ap zero_in e)
-divided_again (fixed sorts.Bin) m h = let e = some_is (fixed sorts.Bin) m h in (ap (λ k. Some (sort_of k)) e, ap zero_in e)
-divided_again (fixed sorts.Nat) m h = let e = some_is (fixed sorts.Nat) m h in (ap (λ k. Some (sort_of k)) e, ap zero_in e)
-divided_again (fixed sorts.Bool) m h = let e = some_is (fixed sorts.Bool) m h in (ap (λ k. Some (sort_of k)) e, ap zero_in e)
+divided_again (fixed sorts.Int) m h = let e = same_Some (fixed sorts.Int) m h in (ap (λ k. Some (sort_of k)) e, ap zero_in e)
+divided_again (fixed sorts.Bin) m h = let e = same_Some (fixed sorts.Bin) m h in (ap (λ k. Some (sort_of k)) e, ap zero_in e)
+divided_again (fixed sorts.Nat) m h = let e = same_Some (fixed sorts.Nat) m h in (ap (λ k. Some (sort_of k)) e, ap zero_in e)
+divided_again (fixed sorts.Bool) m h = let e = same_Some (fixed sorts.Bool) m h in (ap (λ k. Some (sort_of k)) e, ap zero_in e)
 
 pub by_again : (op : ByLiteral) (k m : Kind) → by_kind op k ≡ Some m → (by_sort op (sort_of k) ≡ Some (sort_of m)) × (zero_in k ≡ zero_in m)
-by_again literals.Power k m h = let e = some_is k m h in (ap (λ k. Some (sort_of k)) e, ap zero_in e)
+by_again literals.Power k m h = let e = same_Some k m h in (ap (λ k. Some (sort_of k)) e, ap zero_in e)
 by_again literals.Quotient k m h = divided_again k m h
 by_again literals.Remainder k m h = divided_again k m h
 
@@ -322,22 +322,22 @@ fixed_only s (fixed r) h = refl
 fixed_only s (free d y) h = absurd cc
 
 pub by_found : (op : ByLiteral) (p : NumberSort) (y : Option ℕ) (m : Kind) → by_sort op p ≡ Some (sort_of m) → is_some y ≡ zero_in m → Dividing op p y m
-by_found literals.Power p y m h zero = record { left = m; left_is = (some_is p (sort_of m) h, zero); gives = refl }
+by_found literals.Power p y m h zero = record { left = m; left_is = (same_Some p (sort_of m) h, zero); gives = refl }
 by_found literals.Quotient (Free d) y m h zero = record { left = free d (is_some y); left_is = (refl, refl); gives = quotient_free d y m h zero }
 by_found literals.Quotient (Fixed s) y m h zero = record { left = fixed s; left_is = (refl, zero ∙ fixed_only s m h); gives = quotient_fixed s m h }
 by_found literals.Remainder (Free d) y m h zero = record { left = free d (is_some y); left_is = (refl, refl); gives = quotient_free d y m h zero }
 by_found literals.Remainder (Fixed s) y m h zero = record { left = fixed s; left_is = (refl, zero ∙ fixed_only s m h); gives = quotient_fixed s m h }
 
 quotient_numeric : (p w : NumberSort) → quotient_sort p ≡ Some w → is_numeric p ≡ true → is_numeric w ≡ true
-quotient_numeric (Free d) w h k = ap is_numeric (sym (some_is (Free true) w h))
+quotient_numeric (Free d) w h k = ap is_numeric (sym (same_Some (Free true) w h))
 quotient_numeric (Fixed sorts.Pos) w h k = absurd cc
-quotient_numeric (Fixed sorts.Int) w h k = ap is_numeric (sym (some_is (Fixed sorts.Int) w h))
-quotient_numeric (Fixed sorts.Bin) w h k = ap is_numeric (sym (some_is (Fixed sorts.Bin) w h))
-quotient_numeric (Fixed sorts.Nat) w h k = ap is_numeric (sym (some_is (Fixed sorts.Nat) w h))
+quotient_numeric (Fixed sorts.Int) w h k = ap is_numeric (sym (same_Some (Fixed sorts.Int) w h))
+quotient_numeric (Fixed sorts.Bin) w h k = ap is_numeric (sym (same_Some (Fixed sorts.Bin) w h))
+quotient_numeric (Fixed sorts.Nat) w h k = ap is_numeric (sym (same_Some (Fixed sorts.Nat) w h))
 quotient_numeric (Fixed sorts.Bool) w h k = absurd cc
 
 pub by_numeric : (op : ByLiteral) (p w : NumberSort) → by_sort op p ≡ Some w → is_numeric p ≡ true → is_numeric w ≡ true
-by_numeric literals.Power p w h k = ap is_numeric (sym (some_is p w h)) ∙ k
+by_numeric literals.Power p w h k = ap is_numeric (sym (same_Some p w h)) ∙ k
 by_numeric literals.Quotient p w h k = quotient_numeric p w h k
 by_numeric literals.Remainder p w h k = quotient_numeric p w h k
 
@@ -377,7 +377,7 @@ fixed_spread k l (fixed r) s h j =
     fixed_parts k l s (h ∙ ap (λ r. Some (fixed r)) (sym (one_sort s r f.0)))
 fixed_spread (free d x) (free e y) (free f z) s h j =
     let b = fixed_is (may_take f z s) s (fixed s) j in
-    let p = may_parts d e x y s (ap (λ n. elim n as (λ _. Bool) [ free f z ↦ may_take f z s | fixed r ↦ true ]) (some_is (free (d || e) (x || y)) (free f z) h) ∙ b.0) in
+    let p = may_parts d e x y s (ap (λ n. elim n as (λ _. Bool) [ free f z ↦ may_take f z s | fixed r ↦ true ]) (same_Some (free (d || e) (x || y)) (free f z) h) ∙ b.0) in
     (fixed_true (may_take d x s) s p.0, fixed_true (may_take e y s) s p.1)
 fixed_spread (free d a) (fixed r) (free c x) s h j = absurd (fixed_not_free r c x (fixed_is (may_take d a r) r (free c x) h).1)
 fixed_spread (fixed r) (free d a) (free c x) s h j = absurd (fixed_not_free r c x (fixed_is (may_take d a r) r (free c x) h).1)

@@ -4,6 +4,8 @@ use Rattle.std.specs.Ordering.{int_eq}
 use Rattle.std.specs.Option.{option_map_or}
 use Rattle.std.proofs.Common.{suc, ap, ◌∙◌, subst, arith}
 use Rattle.std.proofs.lemmas.Int.{ints}
+use Rattle.std.proofs.lemmas.Option.{same_Some}
+use Rattle.std.proofs.lemmas.Bool.{and_parts, and_from}
 use Rattle.goal_ast.specs.declared.term.Sort.{Sort}
 use Rattle.goal_ast.specs.declared.term.Sort.TheVariants as sorts
 use Rattle.goal_ast.specs.declared.term.Fn1.{Fn1}
@@ -15,8 +17,6 @@ use Rattle.goal_ast.specs.declared.term.Term.TheVariants.{rolls-Lit, rolls-Var, 
 use Rattle.goal_ast.specs.declared.goal.Name.{Name}
 use Rattle.goal_ast.specs.Range.{sorts_of}
 use Rattle.goal_ast.specs.Sorted.{is_sort, is_number, is_small, argument_1, result_1, sort_2, variable_has, literals_small, term_nodes}
-use Rattle.goal_ast.proofs.DivisionLaws.{both}
-use Rattle.goal_ast.proofs.SortedLaws.{join}
 use Rattle.goal_sort.specs.declared.raw.Head.{Head}
 use Rattle.goal_sort.specs.declared.raw.Head.TheVariants as heads
 use Rattle.goal_sort.specs.declared.raw.RawBound.{RawBound}
@@ -32,7 +32,6 @@ use Rattle.goal_sort.specs.Kinds.{Kind, free, fixed, together, within, by_kind, 
 use Rattle.goal_sort.specs.IsSorted.{node, written, written_minus, literal_fits, IsNumber}
 use Rattle.goal_sort.proofs.TermLaws.{term_sort, term_small, term_size, keeps}
 use Rattle.goal_sort.proofs.TakingLaws.{KindFits, Goes, both_go, within_fits, literal_number, arithmetic_number, by_number, by_negative_number, opposite_number, call_1_number, call_2_number, same_sort}
-use Rattle.goal_sort.proofs.GivingLaws.{some_is}
 
 -- ---- the sorts of bound names
 
@@ -51,7 +50,7 @@ bound_at i x [] v h = absurd (cc)
 bound_at i x (b ∷ bs) v h = go (same_name x b.name) h (λ k. later i b bs v (bound_at (i + 1) x bs v k))
   where
     go : (c : Bool) → (if c then Some (i, b.sort) else bound_from (i + 1) x bs) ≡ Some v → (bound_from (i + 1) x bs ≡ Some v → IsAt i (b ∷ bs) v) → IsAt i (b ∷ bs) v
-    go true h k = subst (IsAt i (b ∷ bs)) (some_is _ _ h) (0, omega arith, refl)
+    go true h k = subst (IsAt i (b ∷ bs)) (same_Some _ _ h) (0, omega arith, refl)
     go false h k = k h
 
 pub bound_sort : (x : Name) (bs : List RawBound) (v : ℕ) (s : Sort) → bound_from 0 x bs ≡ Some (v, s) → slice_get (sorts_in bs) v ≡ Some s
@@ -100,8 +99,8 @@ within_size (fixed s) (fixed r) t = refl
 
 literal_holds : (bs : List RawBound) (n : ℤ) (p : ℕ) → literal_fits n → NumberFits bs (written n p) (free false (int_eq n (pos 0))) (terms.Lit n)
 literal_holds bs n p h = record {
-  sort = literal_number (sorts_in bs) n (both _ _ h).0;
-  small = term_small (Term-F.Lit n) (rolls-Lit n) ∙ (both _ _ h).1;
+  sort = literal_number (sorts_in bs) n (and_parts _ _ h).0;
+  small = term_small (Term-F.Lit n) (rolls-Lit n) ∙ (and_parts _ _ h).1;
   size = rw (term_size (Term-F.Lit n) (rolls-Lit n)) (leaf_size (heads.Lit n) p);
 }
 
@@ -110,16 +109,16 @@ has_variable vars v s h = ap (λ o. option_map_or (λ (t : Sort). is_sort t s) o
 
 variable_holds : (bs : List RawBound) (x : Name) (p v : ℕ) (s : Sort) → bound_from 0 x bs ≡ Some (v, s) → is_number s ≡ true → NumberFits bs (node (heads.Name x) p []) (fixed s) (terms.Var v)
 variable_holds bs x p v s h k = record {
-  sort = record { number = k; has = term_sort (Term-F.Var v) (rolls-Var v) (sorts_in bs) s ∙ join _ _ k (has_variable (sorts_in bs) v s (bound_sort x bs v s h)) };
+  sort = record { number = k; has = term_sort (Term-F.Var v) (rolls-Var v) (sorts_in bs) s ∙ and_from _ _ k (has_variable (sorts_in bs) v s (bound_sort x bs v s h)) };
   small = term_small (Term-F.Var v) (rolls-Var v);
   size = rw (term_size (Term-F.Var v) (rolls-Var v)) (leaf_size (heads.Name x) p);
 }
 
 arithmetic_small : (op : Arithmetic) (k : Kind) (t u : Term) → literals_small t ≡ true → literals_small u ≡ true → literals_small (arithmetic_of op k t u) ≡ true
-arithmetic_small arithmetics.Sum k t u h l = term_small (Term-F.Add t u) (rolls-Add t u) ∙ join _ _ h l
-arithmetic_small arithmetics.Difference (free d z) t u h l = term_small (Term-F.Sub sorts.Int t u) (rolls-Sub sorts.Int t u) ∙ join _ _ h l
-arithmetic_small arithmetics.Difference (fixed s) t u h l = term_small (Term-F.Sub s t u) (rolls-Sub s t u) ∙ join _ _ h l
-arithmetic_small arithmetics.Product k t u h l = term_small (Term-F.Mul t u) (rolls-Mul t u) ∙ join _ _ h l
+arithmetic_small arithmetics.Sum k t u h l = term_small (Term-F.Add t u) (rolls-Add t u) ∙ and_from _ _ h l
+arithmetic_small arithmetics.Difference (free d z) t u h l = term_small (Term-F.Sub sorts.Int t u) (rolls-Sub sorts.Int t u) ∙ and_from _ _ h l
+arithmetic_small arithmetics.Difference (fixed s) t u h l = term_small (Term-F.Sub s t u) (rolls-Sub s t u) ∙ and_from _ _ h l
+arithmetic_small arithmetics.Product k t u h l = term_small (Term-F.Mul t u) (rolls-Mul t u) ∙ and_from _ _ h l
 
 arithmetic_size : (op : Arithmetic) (k : Kind) (t u : Term) → term_nodes (arithmetic_of op k t u) ≡ (term_nodes t + term_nodes u) + 1
 arithmetic_size arithmetics.Sum k t u = term_size (Term-F.Add t u) (rolls-Add t u)
@@ -162,14 +161,14 @@ call_1_holds bs f h p a t g = record {
 call_2_holds : (bs : List RawBound) (f : Fn2) (h : Head) (p : ℕ) (a b : RawExpr) (t u : Term) → NumberFits bs a (fixed (sort_2 f)) t → NumberFits bs b (fixed (sort_2 f)) u → NumberFits bs (node h p (a ∷ b ∷ [])) (fixed (sort_2 f)) (terms.Call2 f t u)
 call_2_holds bs f h p a b t u g k = record {
   sort = call_2_number (sorts_in bs) f t u g.sort k.sort;
-  small = term_small (Term-F.Call2 f t u) (rolls-Call2 f t u) ∙ join _ _ g.small k.small;
+  small = term_small (Term-F.Call2 f t u) (rolls-Call2 f t u) ∙ and_from _ _ g.small k.small;
   size = rw (term_size (Term-F.Call2 f t u) (rolls-Call2 f t u)) (two_size h p a b _ _ g.size k.size);
 }
 
 by_small : (op : ByLiteral) (t : Term) (n : ℤ) → literals_small t ≡ true → is_small n ≡ true → literals_small (by_term op t n) ≡ true
-by_small literals.Power t n h k = term_small (Term-F.Pow t n) (rolls-Pow t n) ∙ join _ _ h k
-by_small literals.Quotient t n h k = term_small (Term-F.Div t n) (rolls-Div t n) ∙ join _ _ h k
-by_small literals.Remainder t n h k = term_small (Term-F.Rem t n) (rolls-Rem t n) ∙ join _ _ h k
+by_small literals.Power t n h k = term_small (Term-F.Pow t n) (rolls-Pow t n) ∙ and_from _ _ h k
+by_small literals.Quotient t n h k = term_small (Term-F.Div t n) (rolls-Div t n) ∙ and_from _ _ h k
+by_small literals.Remainder t n h k = term_small (Term-F.Rem t n) (rolls-Rem t n) ∙ and_from _ _ h k
 
 by_size : (op : ByLiteral) (t : Term) (n : ℤ) → term_nodes (by_term op t n) ≡ term_nodes t + 1
 by_size literals.Power t n = term_size (Term-F.Pow t n) (rolls-Pow t n)
@@ -180,7 +179,7 @@ by_holds : (bs : List RawBound) (op : ByLiteral) (h : Head) (p : ℕ) (a b : Raw
     → NumberFits bs (node h p (a ∷ b ∷ [])) m (by_term op t n)
 by_holds bs op h p a b k m t n f l c e = record {
   sort = by_number (sorts_in bs) op k m t n f.sort c e;
-  small = by_small op t n f.small (both _ _ l).1;
+  small = by_small op t n f.small (and_parts _ _ l).1;
   size = rw (by_size op t n) (first_size h p a b _ f.size);
 }
 
@@ -191,7 +190,7 @@ by_negative_holds : (bs : List RawBound) (op : ByLiteral) (h : Head) (p : ℕ) (
     → NumberFits bs (node h p (a ∷ b ∷ [])) (fixed sorts.Int) (by_term op t (neg_ℤ n))
 by_negative_holds bs op h p a b t n f l c d = record {
   sort = by_negative_number (sorts_in bs) op t n f.sort c d;
-  small = by_small op t (neg_ℤ n) f.small (negative_small n (both _ _ l).1);
+  small = by_small op t (neg_ℤ n) f.small (negative_small n (and_parts _ _ l).1);
   size = rw (by_size op t (neg_ℤ n)) (first_size h p a b _ f.size);
 }
 

@@ -2,6 +2,7 @@
 use Rattle.std.proofs.Common.{◌≡◌, ℕ, List, [], ◌∷◌, ◌++◌, map, true, Option, Some, None, refl, inl, inr, sym, ap, ◌∙◌, subst}
 use Rattle.std.specs.Prelude.{◌==◌}
 use Rattle.std.proofs.lemmas.Bool.{eqb-true}
+use Rattle.std.proofs.lemmas.Option.{same_Some}
 use Rattle.goal_ast.specs.declared.term.Fn1.TheVariants as one
 use Rattle.goal_ast.specs.declared.term.Fn2.{Fn2}
 use Rattle.goal_ast.specs.declared.term.Fn2.TheVariants as two
@@ -12,6 +13,7 @@ use Rattle.goal_ast.specs.declared.formula.BCmp.TheVariants as tests
 use Rattle.goal_ast.specs.declared.formula.BFn.TheVariants as bools
 use Rattle.goal_token.specs.Numbers.{sign_number}
 use Rattle.goal_token.specs.Spelling.{cmp_sign}
+use Rattle.goal_ast.specs.Sorted.{makes_chain}
 use Rattle.goal_sort.specs.declared.raw.Head.{Head}
 use Rattle.goal_sort.specs.declared.raw.Head.TheVariants as heads
 use Rattle.goal_sort.specs.declared.operator.Unary.{Unary}
@@ -27,8 +29,8 @@ use Rattle.goal_sort.specs.declared.operator.Connective.TheVariants as connectiv
 use Rattle.goal_sort.specs.declared.operator.Binary.{Binary}
 use Rattle.goal_sort.specs.declared.operator.Binary.TheVariants as binary
 use Rattle.goal_sort.specs.Operators.{entry, prefixes, functions_of_one, unary_of, by_literals, by_literal_of, infixes, functions_of_two, binary_of, chained, both, chain_of}
-use Rattle.goal_sort.specs.Heads.{unary_head, literal_head, binary_head, makes_chain, chain_head}
-use Rattle.goal_sort.proofs.GivingLaws.{some_is, test_some}
+use Rattle.goal_sort.specs.Heads.{unary_head, literal_head, binary_head, chain_head}
+use Rattle.goal_sort.proofs.GivingLaws.{test_some}
 
 -- ---- tables
 
@@ -40,7 +42,7 @@ AllEntries P (e ∷ table) = P e.0 e.1 × AllEntries P table
 entry_is : {A : Type 0} (P : ℕ → A → Type 0) (n : ℕ) (x : A) (table : List (ℕ × A)) → AllEntries P table → entry n table ≡ Some x → P n x
 entry_is P n x [] h is = absurd cc
 entry_is P n x (e ∷ table) h is = elim (test_some (n == e.0) (Some e.1) (entry n table) x is) [
-  | inl k ↦ subst (λ m. P m x) (sym (eqb-true n e.0 k.0)) (subst (λ y. P e.0 y) (some_is e.1 x k.1) h.0)
+  | inl k ↦ subst (λ m. P m x) (sym (eqb-true n e.0 k.0)) (subst (λ y. P e.0 y) (same_Some e.1 x k.1) h.0)
   | inr k ↦ entry_is P n x table h.1 k.1
 ]
 
@@ -108,7 +110,7 @@ link_is : (n : ℕ) (c : Cmp) → entry n chained ≡ Some c → IsLink n c
 link_is n c is = entry_is IsLink n c chained (record { number = refl; makes = refl }, (record { number = refl; makes = refl }, tt)) is
 
 both_some : {A : Type 0} (a b : Option A) (p : A × A) → both a b ≡ Some p → (a ≡ Some p.0) × (b ≡ Some p.1)
-both_some (Some x) (Some y) p is = let e = some_is (x, y) p is in (ap (λ q. Some q.0) e, ap (λ q. Some q.1) e)
+both_some (Some x) (Some y) p is = let e = same_Some (x, y) p is in (ap (λ q. Some q.0) e, ap (λ q. Some q.1) e)
 both_some (Some x) None p is = absurd cc
 both_some None b p is = absurd cc
 

@@ -3,6 +3,8 @@ use Rattle.std.specs.Prelude.{◌≡◌, ℤ, pos, neg_ℤ, int_le, Bool, true, 
 use Rattle.std.specs.Ordering.{int_eq}
 use Rattle.std.proofs.Common.{sym, ◌∙◌, subst, arith}
 use Rattle.std.proofs.lemmas.Int.{ints}
+use Rattle.std.proofs.lemmas.Option.{same_Some}
+use Rattle.std.proofs.lemmas.Bool.{and_parts, and_from}
 use Rattle.goal_ast.specs.declared.term.Sort.{Sort}
 use Rattle.goal_ast.specs.declared.term.Sort.TheVariants as sorts
 use Rattle.goal_ast.specs.declared.term.Fn1.{Fn1}
@@ -13,8 +15,6 @@ use Rattle.goal_ast.specs.declared.term.Term.TheOpen.{Term-F}
 use Rattle.goal_ast.specs.declared.term.Term.TheVariants as terms
 use Rattle.goal_ast.specs.declared.term.Term.TheVariants.{rolls-Lit, rolls-Neg, rolls-Add, rolls-Sub, rolls-Mul, rolls-Pow, rolls-Div, rolls-Rem, rolls-Call1, rolls-Call2}
 use Rattle.goal_ast.specs.Sorted.{is_sort, is_number, literal_has, divides_on, argument_1, result_1, sort_2, has_sort}
-use Rattle.goal_ast.proofs.DivisionLaws.{both}
-use Rattle.goal_ast.proofs.SortedLaws.{join}
 use Rattle.goal_sort.specs.declared.operator.Arithmetic.{Arithmetic}
 use Rattle.goal_sort.specs.declared.operator.Arithmetic.TheVariants as arithmetics
 use Rattle.goal_sort.specs.declared.operator.ByLiteral.{ByLiteral}
@@ -22,7 +22,6 @@ use Rattle.goal_sort.specs.declared.operator.ByLiteral.TheVariants as literals
 use Rattle.goal_sort.specs.SortedNumbers.{with_sort, by_term, can_stand, can_be_negative}
 use Rattle.goal_sort.specs.Kinds.{Kind, free, fixed, may_take, fixed_if, together, within, divided, by_kind, arithmetic_of}
 use Rattle.goal_sort.proofs.TermLaws.{term_sort, term_with}
-use Rattle.goal_sort.proofs.GivingLaws.{some_is}
 
 -- without a sort it has the sort Z as it is, and each that it may take with its subtractions on that
 pub record FreeFits (vars : List Sort) (d z : Bool) (t : Term) : Type 0 where
@@ -80,7 +79,7 @@ weaker : (d z e y : Bool) (s : Sort) → (d ≡ true → e ≡ true) → (z ≡ 
 weaker d z e y sorts.Int g h m = refl
 weaker d z e y sorts.Bin g h m = refl
 weaker d z e y sorts.Nat g h m = refl
-weaker d z e y sorts.Pos g h m = join _ _ (not_later d e g (both _ _ m).0) (not_later z y h (both _ _ m).1)
+weaker d z e y sorts.Pos g h m = and_from _ _ (not_later d e g (and_parts _ _ m).0) (not_later z y h (and_parts _ _ m).1)
 weaker d z e y sorts.Bool g h m = absurd (cc)
 
 or_left : (d e : Bool) → d ≡ true → (d || e) ≡ true
@@ -91,15 +90,15 @@ or_right true e h = refl
 or_right false e h = h
 
 taken_goes : (d z : Bool) (s : Sort) (m : Kind) (b : Bool) → may_take d z s ≡ b → fixed_if b s ≡ Some m → BothGo (free d z) (fixed s) m
-taken_goes d z s m true h e = subst (BothGo (free d z) (fixed s)) (some_is _ _ e) (h, refl)
+taken_goes d z s m true h e = subst (BothGo (free d z) (fixed s)) (same_Some _ _ e) (h, refl)
 taken_goes d z s m false h e = absurd (cc)
 
 same_goes : (s t : Sort) (m : Kind) (b : Bool) → is_sort s t ≡ b → fixed_if b s ≡ Some m → BothGo (fixed s) (fixed t) m
-same_goes s t m true h e = subst (BothGo (fixed s) (fixed t)) (some_is _ _ e) (refl, sym (one_sort s t h))
+same_goes s t m true h e = subst (BothGo (fixed s) (fixed t)) (same_Some _ _ e) (refl, sym (one_sort s t h))
 same_goes s t m false h e = absurd (cc)
 
 pub both_go : (k l m : Kind) → together k l ≡ Some m → BothGo k l m
-both_go (free d z) (free e y) m h = subst (BothGo (free d z) (free e y)) (some_is _ _ h) ((or_left d e, or_left z y), (or_right d e, or_right z y))
+both_go (free d z) (free e y) m h = subst (BothGo (free d z) (free e y)) (same_Some _ _ h) ((or_left d e, or_left z y), (or_right d e, or_right z y))
 both_go (free d z) (fixed s) m h = taken_goes d z s m (may_take d z s) refl h
 both_go (fixed s) (free d z) m h = let g = taken_goes d z s m (may_take d z s) refl h in (g.1, g.0)
 both_go (fixed s) (fixed t) m h = same_goes s t m (is_sort s t) refl h
@@ -139,13 +138,13 @@ literal_number vars n h = record {
 }
 
 sum_has : (vars : List Sort) (s : Sort) (t u : Term) → Has vars s t → Has vars s u → Has vars s (terms.Add t u)
-sum_has vars s t u h k = term_sort (Term-F.Add t u) (rolls-Add t u) vars s ∙ join _ _ h k
+sum_has vars s t u h k = term_sort (Term-F.Add t u) (rolls-Add t u) vars s ∙ and_from _ _ h k
 
 product_has : (vars : List Sort) (s : Sort) (t u : Term) → Has vars s t → Has vars s u → Has vars s (terms.Mul t u)
-product_has vars s t u h k = term_sort (Term-F.Mul t u) (rolls-Mul t u) vars s ∙ join _ _ h k
+product_has vars s t u h k = term_sort (Term-F.Mul t u) (rolls-Mul t u) vars s ∙ and_from _ _ h k
 
 difference_has : (vars : List Sort) (s : Sort) (t u : Term) → Has vars s t → Has vars s u → Has vars s (terms.Sub s t u)
-difference_has vars s t u h k = term_sort (Term-F.Sub s t u) (rolls-Sub s t u) vars s ∙ join _ _ (same_sort s) (join _ _ h k)
+difference_has vars s t u h k = term_sort (Term-F.Sub s t u) (rolls-Sub s t u) vars s ∙ and_from _ _ (same_sort s) (and_from _ _ h k)
 
 pub arithmetic_number : (vars : List Sort) (op : Arithmetic) (k : Kind) (t u : Term) → KindFits vars k t → KindFits vars k u → KindFits vars k (arithmetic_of op k t u)
 arithmetic_number vars arithmetics.Sum (free d z) t u f g = record {
@@ -171,9 +170,9 @@ stands literals.Quotient s n = divides_on s n
 stands literals.Remainder s n = divides_on s n
 
 by_has : (vars : List Sort) (op : ByLiteral) (s : Sort) (t : Term) (n : ℤ) → Has vars s t → stands op s n ≡ true → Has vars s (by_term op t n)
-by_has vars literals.Power s t n h k = term_sort (Term-F.Pow t n) (rolls-Pow t n) vars s ∙ join _ _ h k
-by_has vars literals.Quotient s t n h k = term_sort (Term-F.Div t n) (rolls-Div t n) vars s ∙ join _ _ h k
-by_has vars literals.Remainder s t n h k = term_sort (Term-F.Rem t n) (rolls-Rem t n) vars s ∙ join _ _ h k
+by_has vars literals.Power s t n h k = term_sort (Term-F.Pow t n) (rolls-Pow t n) vars s ∙ and_from _ _ h k
+by_has vars literals.Quotient s t n h k = term_sort (Term-F.Div t n) (rolls-Div t n) vars s ∙ and_from _ _ h k
+by_has vars literals.Remainder s t n h k = term_sort (Term-F.Rem t n) (rolls-Rem t n) vars s ∙ and_from _ _ h k
 
 by_with : (op : ByLiteral) (s : Sort) (t : Term) (n : ℤ) → with_sort s (by_term op t n) ≡ by_term op (with_sort s t) n
 by_with literals.Power s t n = term_with s (Term-F.Pow t n) (rolls-Pow t n)
@@ -201,9 +200,9 @@ fixed_by : (vars : List Sort) (op : ByLiteral) (s : Sort) (t : Term) (n : ℤ) �
 fixed_by vars op s t n f h = record { number = f.number; has = by_has vars op s t n f.has h }
 
 divided_fixed : (s : Sort) (m : Kind) (n : ℤ) → is_number s ≡ true → int_le (pos 1) n ≡ true → divided (fixed s) ≡ Some m → (fixed s ≡ m) × (divides_on s n ≡ true)
-divided_fixed sorts.Int m n k h e = (some_is _ _ e, divides_where sorts.Int n true h refl)
-divided_fixed sorts.Bin m n k h e = (some_is _ _ e, h)
-divided_fixed sorts.Nat m n k h e = (some_is _ _ e, h)
+divided_fixed sorts.Int m n k h e = (same_Some _ _ e, divides_where sorts.Int n true h refl)
+divided_fixed sorts.Bin m n k h e = (same_Some _ _ e, h)
+divided_fixed sorts.Nat m n k h e = (same_Some _ _ e, h)
 divided_fixed sorts.Pos m n k h e = absurd (cc)
 divided_fixed sorts.Bool m n k h e = absurd (cc)
 
@@ -211,12 +210,12 @@ abbrev ByFits : List Sort → ByLiteral → Term → ℤ → Kind → Type 0
 ByFits vars op t n k = KindFits vars k (by_term op t n)
 
 pub by_number : (vars : List Sort) (op : ByLiteral) (k m : Kind) (t : Term) (n : ℤ) → KindFits vars k t → can_stand op n ≡ true → by_kind op k ≡ Some m → KindFits vars m (by_term op t n)
-by_number vars literals.Power (free d z) m t n f c h = subst (ByFits vars literals.Power t n) (some_is _ _ h) (free_by vars literals.Power d d z t n f (λ s e. e) (λ s e. c))
-by_number vars literals.Power (fixed s) m t n f c h = subst (ByFits vars literals.Power t n) (some_is _ _ h) (fixed_by vars literals.Power s t n f c)
-by_number vars literals.Quotient (free d z) m t n f c h = subst (ByFits vars literals.Quotient t n) (some_is _ _ h)
+by_number vars literals.Power (free d z) m t n f c h = subst (ByFits vars literals.Power t n) (same_Some _ _ h) (free_by vars literals.Power d d z t n f (λ s e. e) (λ s e. c))
+by_number vars literals.Power (fixed s) m t n f c h = subst (ByFits vars literals.Power t n) (same_Some _ _ h) (fixed_by vars literals.Power s t n f c)
+by_number vars literals.Quotient (free d z) m t n f c h = subst (ByFits vars literals.Quotient t n) (same_Some _ _ h)
     (free_by vars literals.Quotient d true z t n f (divided_takes d z) (λ s e. divides_where s n z c e))
 by_number vars literals.Quotient (fixed s) m t n f c h = let g = divided_fixed s m n f.number c h in subst (ByFits vars literals.Quotient t n) g.0 (fixed_by vars literals.Quotient s t n f g.1)
-by_number vars literals.Remainder (free d z) m t n f c h = subst (ByFits vars literals.Remainder t n) (some_is _ _ h)
+by_number vars literals.Remainder (free d z) m t n f c h = subst (ByFits vars literals.Remainder t n) (same_Some _ _ h)
     (free_by vars literals.Remainder d true z t n f (divided_takes d z) (λ s e. divides_where s n z c e))
 by_number vars literals.Remainder (fixed s) m t n f c h = let g = divided_fixed s m n f.number c h in subst (ByFits vars literals.Remainder t n) g.0 (fixed_by vars literals.Remainder s t n f g.1)
 
@@ -253,11 +252,11 @@ result_number one.ToN = refl
 pub call_1_number : (vars : List Sort) (f : Fn1) (t : Term) → FixedFits vars (argument_1 f) t → FixedFits vars (result_1 f) (terms.Call1 f t)
 call_1_number vars f t g = record {
   number = result_number f;
-  has = term_sort (Term-F.Call1 f t) (rolls-Call1 f t) vars (result_1 f) ∙ join _ _ (same_sort (result_1 f)) g.has;
+  has = term_sort (Term-F.Call1 f t) (rolls-Call1 f t) vars (result_1 f) ∙ and_from _ _ (same_sort (result_1 f)) g.has;
 }
 
 pub call_2_number : (vars : List Sort) (f : Fn2) (t u : Term) → FixedFits vars (sort_2 f) t → FixedFits vars (sort_2 f) u → FixedFits vars (sort_2 f) (terms.Call2 f t u)
 call_2_number vars f t u g h = record {
   number = g.number;
-  has = term_sort (Term-F.Call2 f t u) (rolls-Call2 f t u) vars (sort_2 f) ∙ join _ _ (same_sort (sort_2 f)) (join _ _ g.has h.has);
+  has = term_sort (Term-F.Call2 f t u) (rolls-Call2 f t u) vars (sort_2 f) ∙ and_from _ _ (same_sort (sort_2 f)) (and_from _ _ g.has h.has);
 }

@@ -1,7 +1,8 @@
 -- A goal that sorting allows is well formed.
-use Rattle.std.specs.Prelude.{◌≡◌, ℕ, ◌≤◌, List, [], ◌∷◌, Bool, true, false, ◌||◌, refl}
+use Rattle.std.specs.Prelude.{◌≡◌, ℕ, ◌≤◌, List, [], ◌∷◌, Bool, true, false, ◌&&◌, ◌||◌, refl}
 use Rattle.std.proofs.Common.{ap, sym, ◌∙◌, arith}
 use Rattle.std.proofs.lemmas.List.{length-map}
+use Rattle.std.proofs.lemmas.Bool.{and_from}
 use Rattle.goal_ast.specs.declared.term.Sort.{Sort}
 use Rattle.goal_ast.specs.declared.term.Sort.TheVariants as sorts
 use Rattle.goal_ast.specs.declared.term.Term.{Term}
@@ -20,8 +21,7 @@ use Rattle.goal_ast.specs.declared.formula.Formula.TheVariants as formulas
 use Rattle.goal_ast.specs.declared.formula.Formula.TheFolds.{map-Formula, fold-roll-Formula}
 use Rattle.goal_ast.specs.declared.goal.Goal.{Goal}
 use Rattle.goal_ast.specs.Range.{sorts_of}
-use Rattle.goal_ast.specs.Sorted.{is_number, Fitting, both_have, compare_well, three_have, chain_well, bool_sort_level, is_bool, formula_sort_level, is_sorted, bool_literal_level, bool_literals_small, formula_literal_level, formula_literals_small, bool_node, bool_nodes, formula_node, formula_nodes, IsWellFormed}
-use Rattle.goal_ast.proofs.SortedLaws.{join}
+use Rattle.goal_ast.specs.Sorted.{is_number, Fitting, both_have, compare_well, three_have, chain_well, bool_sort_level, is_bool, makes_chain, formula_sort_level, is_sorted, bool_literal_level, bool_literals_small, formula_literal_level, formula_literals_small, bool_node, bool_nodes, formula_node, formula_nodes, IsWellFormed}
 use Rattle.goal_sort.specs.declared.raw.Head.{Head}
 use Rattle.goal_sort.specs.declared.raw.RawBound.{RawBound}
 use Rattle.goal_sort.specs.declared.raw.RawExpr.{RawExpr}
@@ -62,12 +62,12 @@ one_of has sorts.Pos n h = fourth_of (has sorts.Int) (has sorts.Bin) (has sorts.
 one_of has sorts.Bool n h = absurd (cc)
 
 compares : (vars : List Sort) (k : Kind) (t u : Term) → KindFits vars k t → KindFits vars k u → compare_well t u vars ≡ true
-compares vars (free d z) t u f g = one_of (both_have t u vars) sorts.Int refl (join _ _ f.plain g.plain)
-compares vars (fixed s) t u f g = one_of (both_have t u vars) s f.number (join _ _ f.has g.has)
+compares vars (free d z) t u f g = one_of (both_have t u vars) sorts.Int refl (and_from _ _ f.plain g.plain)
+compares vars (fixed s) t u f g = one_of (both_have t u vars) s f.number (and_from _ _ f.has g.has)
 
 chains : (vars : List Sort) (k : Kind) (t u v : Term) → KindFits vars k t → KindFits vars k u → KindFits vars k v → chain_well t u v vars ≡ true
-chains vars (free d z) t u v f g h = one_of (three_have t u v vars) sorts.Int refl (join _ _ f.plain (join _ _ g.plain h.plain))
-chains vars (fixed s) t u v f g h = one_of (three_have t u v vars) s f.number (join _ _ f.has (join _ _ g.has h.has))
+chains vars (free d z) t u v f g h = one_of (three_have t u v vars) sorts.Int refl (and_from _ _ f.plain (and_from _ _ g.plain h.plain))
+chains vars (fixed s) t u v f g h = one_of (three_have t u v vars) s f.number (and_from _ _ f.has (and_from _ _ g.has h.has))
 
 -- ---- bools
 
@@ -86,12 +86,12 @@ made_truth bs e y r h k l = record {
 }
 
 test_fits : (bs : List RawBound) (c : BCmp) (h : Head) (p : ℕ) (a b : RawExpr) (m : Kind) (t u : Term) → NumberFits bs a m t → NumberFits bs b m u → TruthFits bs (node h p (a ∷ b ∷ [])) (bools.Test c t u)
-test_fits bs c h p a b m t u f g = made_truth bs _ (BTerm-F.Test c t u) (rolls-Test c t u) (compares (sorts_in bs) m t u f.sort g.sort) (join _ _ f.small g.small) (two_size h p a b _ _ f.size g.size)
+test_fits bs c h p a b m t u f g = made_truth bs _ (BTerm-F.Test c t u) (rolls-Test c t u) (compares (sorts_in bs) m t u f.sort g.sort) (and_from _ _ f.small g.small) (two_size h p a b _ _ f.size g.size)
 
 joined_fits : (bs : List RawBound) (op : BoolOperator) (h : Head) (p : ℕ) (a b : RawExpr) (c d : BTerm) → TruthFits bs a c → TruthFits bs b d → TruthFits bs (node h p (a ∷ b ∷ [])) (bool_term op c d)
-joined_fits bs operators.And h p a b c d f g = made_truth bs _ (BTerm-F.And c d) (rolls-And c d) (join _ _ f.sort g.sort) (join _ _ f.small g.small) (two_size h p a b _ _ f.size g.size)
-joined_fits bs operators.Or h p a b c d f g = made_truth bs _ (BTerm-F.Or c d) (rolls-Or c d) (join _ _ f.sort g.sort) (join _ _ f.small g.small) (two_size h p a b _ _ f.size g.size)
-joined_fits bs (operators.Call o) h p a b c d f g = made_truth bs _ (BTerm-F.Call o c d) (rolls-Call o c d) (join _ _ f.sort g.sort) (join _ _ f.small g.small) (two_size h p a b _ _ f.size g.size)
+joined_fits bs operators.And h p a b c d f g = made_truth bs _ (BTerm-F.And c d) (rolls-And c d) (and_from _ _ f.sort g.sort) (and_from _ _ f.small g.small) (two_size h p a b _ _ f.size g.size)
+joined_fits bs operators.Or h p a b c d f g = made_truth bs _ (BTerm-F.Or c d) (rolls-Or c d) (and_from _ _ f.sort g.sort) (and_from _ _ f.small g.small) (two_size h p a b _ _ f.size g.size)
+joined_fits bs (operators.Call o) h p a b c d f g = made_truth bs _ (BTerm-F.Call o c d) (rolls-Call o c d) (and_from _ _ f.sort g.sort) (and_from _ _ f.small g.small) (two_size h p a b _ _ f.size g.size)
 
 pub truth_fits : {bs : List RawBound} {e : RawExpr} {b : BTerm} → IsTruth bs e b → TruthFits bs e b
 truth_fits {bs} (IsTruth.true_word p) = made_truth bs _ BTerm-F.True rolls-True refl refl (leaf_size _ p)
@@ -119,19 +119,19 @@ made_statement bs e y r h k l = record {
 }
 
 comparison_fits : (bs : List RawBound) (c : Cmp) (h : Head) (p : ℕ) (a b : RawExpr) (m : Kind) (t u : Term) → NumberFits bs a m t → NumberFits bs b m u → StatementFits bs (node h p (a ∷ b ∷ [])) (formulas.Atom c t u)
-comparison_fits bs c h p a b m t u f g = made_statement bs _ (Formula-F.Atom c t u) (formulas.rolls-Atom c t u) (compares (sorts_in bs) m t u f.sort g.sort) (join _ _ f.small g.small) (two_size h p a b _ _ f.size g.size)
+comparison_fits bs c h p a b m t u f g = made_statement bs _ (Formula-F.Atom c t u) (formulas.rolls-Atom c t u) (compares (sorts_in bs) m t u f.sort g.sort) (and_from _ _ f.small g.small) (two_size h p a b _ _ f.size g.size)
 
-chain_fits : (bs : List RawBound) (d e : Cmp) (h : Head) (p : ℕ) (a b c : RawExpr) (m : Kind) (t u v : Term) → NumberFits bs a m t → NumberFits bs b m u → NumberFits bs c m v
+chain_fits : (bs : List RawBound) (d e : Cmp) (h : Head) (p : ℕ) (a b c : RawExpr) (m : Kind) (t u v : Term) → (makes_chain d && makes_chain e) ≡ true → NumberFits bs a m t → NumberFits bs b m u → NumberFits bs c m v
     → StatementFits bs (node h p (a ∷ b ∷ c ∷ [])) (formulas.Chain t d u e v)
-chain_fits bs d e h p a b c m t u v i j k =
-    made_statement bs _ (Formula-F.Chain t d u e v) (formulas.rolls-Chain t d u e v) (chains (sorts_in bs) m t u v i.sort j.sort k.sort) (join _ _ i.small (join _ _ j.small k.small))
+chain_fits bs d e h p a b c m t u v x i j k =
+    made_statement bs _ (Formula-F.Chain t d u e v) (formulas.rolls-Chain t d u e v) (and_from _ _ x (chains (sorts_in bs) m t u v i.sort j.sort k.sort)) (and_from _ _ i.small (and_from _ _ j.small k.small))
     (three_size h p a b c _ _ _ i.size j.size k.size)
 
 connected_fits : (bs : List RawBound) (op : Connective) (h : Head) (p : ℕ) (a b : RawExpr) (c d : Formula) → StatementFits bs a c → StatementFits bs b d → StatementFits bs (node h p (a ∷ b ∷ [])) (connected_formula op c d)
-connected_fits bs connectives.And h p a b c d f g = made_statement bs _ (Formula-F.And c d) (formulas.rolls-And c d) (join _ _ f.sort g.sort) (join _ _ f.small g.small) (two_size h p a b _ _ f.size g.size)
-connected_fits bs connectives.Or h p a b c d f g = made_statement bs _ (Formula-F.Or c d) (formulas.rolls-Or c d) (join _ _ f.sort g.sort) (join _ _ f.small g.small) (two_size h p a b _ _ f.size g.size)
-connected_fits bs connectives.Imp h p a b c d f g = made_statement bs _ (Formula-F.Imp c d) (formulas.rolls-Imp c d) (join _ _ f.sort g.sort) (join _ _ f.small g.small) (two_size h p a b _ _ f.size g.size)
-connected_fits bs connectives.Iff h p a b c d f g = made_statement bs _ (Formula-F.Iff c d) (formulas.rolls-Iff c d) (join _ _ f.sort g.sort) (join _ _ f.small g.small) (two_size h p a b _ _ f.size g.size)
+connected_fits bs connectives.And h p a b c d f g = made_statement bs _ (Formula-F.And c d) (formulas.rolls-And c d) (and_from _ _ f.sort g.sort) (and_from _ _ f.small g.small) (two_size h p a b _ _ f.size g.size)
+connected_fits bs connectives.Or h p a b c d f g = made_statement bs _ (Formula-F.Or c d) (formulas.rolls-Or c d) (and_from _ _ f.sort g.sort) (and_from _ _ f.small g.small) (two_size h p a b _ _ f.size g.size)
+connected_fits bs connectives.Imp h p a b c d f g = made_statement bs _ (Formula-F.Imp c d) (formulas.rolls-Imp c d) (and_from _ _ f.sort g.sort) (and_from _ _ f.small g.small) (two_size h p a b _ _ f.size g.size)
+connected_fits bs connectives.Iff h p a b c d f g = made_statement bs _ (Formula-F.Iff c d) (formulas.rolls-Iff c d) (and_from _ _ f.sort g.sort) (and_from _ _ f.small g.small) (two_size h p a b _ _ f.size g.size)
 
 pub statement_fits : {bs : List RawBound} {e : RawExpr} {f : Formula} → IsStatement bs e f → StatementFits bs e f
 statement_fits {bs} (IsStatement.true_word p) = made_statement bs _ Formula-F.True formulas.rolls-True refl refl (leaf_size _ p)
@@ -141,15 +141,15 @@ statement_fits {bs} (IsStatement.comparison {a} {b} {k} {l} {m} {t} {u} c p f g 
 statement_fits {bs} (IsStatement.chain {a} {b} {c} {k} {l} {m} {n} {o} {t} {u} {v} d e p x y f g h i j) =
     let q = both_go k l n i in
     let r = both_go n m o j in
-    chain_fits bs d e _ p a b c o _ _ _ (part_holds bs a k o t (number_fits f) (goes_on k n o q.0 r.0)) (part_holds bs b l o u (number_fits g) (goes_on l n o q.1 r.0)) (part_holds bs c m o v (number_fits h) r.1)
+    chain_fits bs d e _ p a b c o _ _ _ (and_from _ _ x y) (part_holds bs a k o t (number_fits f) (goes_on k n o q.0 r.0)) (part_holds bs b l o u (number_fits g) (goes_on l n o q.1 r.0)) (part_holds bs c m o v (number_fits h) r.1)
 statement_fits {bs} (IsStatement.equal_bools {a} {b} {c} {d} p f g) =
     let i = truth_fits f in
     let j = truth_fits g in
-    made_statement bs _ (Formula-F.Same c d) (formulas.rolls-Same c d) (join _ _ i.sort j.sort) (join _ _ i.small j.small) (two_size _ p a b _ _ i.size j.size)
+    made_statement bs _ (Formula-F.Same c d) (formulas.rolls-Same c d) (and_from _ _ i.sort j.sort) (and_from _ _ i.small j.small) (two_size _ p a b _ _ i.size j.size)
 statement_fits {bs} (IsStatement.different_bools {a} {b} {c} {d} p f g) =
     let i = truth_fits f in
     let j = truth_fits g in
-    made_statement bs _ (Formula-F.Differ c d) (formulas.rolls-Differ c d) (join _ _ i.sort j.sort) (join _ _ i.small j.small) (two_size _ p a b _ _ i.size j.size)
+    made_statement bs _ (Formula-F.Differ c d) (formulas.rolls-Differ c d) (and_from _ _ i.sort j.sort) (and_from _ _ i.small j.small) (two_size _ p a b _ _ i.size j.size)
 statement_fits {bs} (IsStatement.negation {a} {f} p g) = let i = statement_fits g in made_statement bs _ (Formula-F.Not f) (formulas.rolls-Not f) i.sort i.small (one_size _ p a _ i.size)
 statement_fits {bs} (IsStatement.connected {a} {b} {f} {g} op p i j) = connected_fits bs op _ p a b f g (statement_fits i) (statement_fits j)
 

@@ -1,7 +1,5 @@
 -- What stands at the nodes of operators and functions.
-use Rattle.std.specs.Prelude.{Bool, true, false}
 use Rattle.goal_ast.specs.declared.formula.Cmp.{Cmp}
-use Rattle.goal_ast.specs.declared.formula.Cmp.TheVariants as cmps
 use Rattle.goal_token.specs.declared.token.Sign.TheVariants as signs
 use Rattle.goal_token.specs.declared.token.Function.TheVariants as functions
 use Rattle.goal_token.specs.Numbers.{sign_number, function_number}
@@ -45,12 +43,6 @@ binary_head (binary.Connect connectives.Or) = heads.Infix (sign_number signs.Or)
 binary_head (binary.Connect connectives.Imp) = heads.Infix (sign_number signs.Arrow)
 binary_head (binary.Connect connectives.Iff) = heads.Infix (sign_number signs.Iff)
 binary_head (binary.Call f) = heads.Apply (function_number (functions.Two f))
-
--- the comparisons of which two stand in a chain
-abbrev pub makes_chain : Cmp → Bool
-makes_chain cmps.Lt = true
-makes_chain cmps.Le = true
-makes_chain c = false
 
 abbrev pub chain_head : Cmp → Cmp → Head
 chain_head c d = heads.Chain (sign_number (cmp_sign c)) (sign_number (cmp_sign d))

@@ -15,7 +15,7 @@ use Rattle.goal_ast.specs.declared.formula.Formula.{Formula}
 use Rattle.goal_ast.specs.declared.formula.Formula.TheVariants as formulas
 use Rattle.goal_ast.specs.declared.goal.Name.{Name}
 use Rattle.goal_ast.specs.declared.goal.Goal.{Goal}
-use Rattle.goal_ast.specs.Sorted.{is_number, is_small, argument_1, result_1, sort_2, names_of, AllDiffer}
+use Rattle.goal_ast.specs.Sorted.{is_number, is_small, argument_1, result_1, sort_2, names_of, AllDiffer, makes_chain}
 use Rattle.goal_token.specs.Words.{lookup, constants}
 use Rattle.goal_sort.specs.declared.raw.Head.{Head}
 use Rattle.goal_sort.specs.declared.raw.Head.TheVariants as heads
@@ -30,7 +30,7 @@ use Rattle.goal_sort.specs.declared.operator.Connective.{Connective}
 use Rattle.goal_sort.specs.declared.operator.Binary.TheVariants as binary
 use Rattle.goal_sort.specs.SortedNumbers.{by_term, can_stand, can_be_negative, bool_term, connected_formula}
 use Rattle.goal_sort.specs.Sorting.{bound_from, variable_of}
-use Rattle.goal_sort.specs.Heads.{unary_head, literal_head, binary_head, chain_head, makes_chain}
+use Rattle.goal_sort.specs.Heads.{unary_head, literal_head, binary_head, chain_head}
 use Rattle.goal_sort.specs.Kinds.{Kind, free, fixed, together, within, by_kind, arithmetic_of}
 
 abbrev pub node : Head → ℕ → List RawExpr → RawExpr

@@ -1,16 +1,12 @@
 -- What a step of sorting gives: a value, or the place that is refused.
 use Rattle.std.specs.Prelude.{◌≡◌, ℕ, Option, Some, None, Result, Ok, Err}
+use Rattle.mm_num.specs.Result.{◌>>=◌}
 use Rattle.goal_sort.specs.declared.fail.SortFail.{SortFail}
 use Rattle.goal_sort.specs.declared.fail.SortFail.TheVariants.{IllSorted, NoMemory}
 
 -- a value, or the place that is refused
 abbrev pub Placed : Type 0 → Type 0
 Placed A = Result A ℕ
-
-infixl 10 ◌>>=◌
-abbrev pub ◌>>=◌ : {A B : Type 0} → Placed A → (A → Placed B) → Placed B
-(Ok x) >>= f = f x
-(Err at) >>= f = Err at
 
 -- what there is, or else this place
 abbrev pub given_at : {A : Type 0} → ℕ → Option A → Placed A

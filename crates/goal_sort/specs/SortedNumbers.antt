@@ -1,6 +1,7 @@
 -- Numbers, bools and formulas of sorts, and how they are made of their parts. A function takes the place of its node,
 -- where it is refused.
 use Rattle.std.specs.Prelude.{ℕ, ℤ, pos, neg_ℤ, int_le, Bool, true, false, ◌||◌, Option, Some, None, Ok, Err, if◌then◌else◌}
+use Rattle.mm_num.specs.Result.{◌>>=◌}
 use Rattle.goal_ast.specs.declared.term.Sort.{Sort}
 use Rattle.goal_ast.specs.declared.term.Sort.TheVariants as sorts
 use Rattle.goal_ast.specs.declared.term.Fn1.{Fn1}
@@ -40,7 +41,7 @@ use Rattle.goal_sort.specs.declared.operator.Connective.{Connective}
 use Rattle.goal_sort.specs.declared.operator.Connective.TheVariants as connectives
 use Rattle.goal_sort.specs.declared.operator.Binary.{Binary}
 use Rattle.goal_sort.specs.declared.operator.Binary.TheVariants as binary
-use Rattle.goal_sort.specs.SortGiving.{◌>>=◌, Placed, given_at}
+use Rattle.goal_sort.specs.SortGiving.{Placed, given_at}
 
 -- ---- the sorts of numbers
 

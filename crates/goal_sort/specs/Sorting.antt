@@ -2,6 +2,7 @@
 use Rattle.std.specs.Prelude.{◌≡◌, ℕ, ◌+◌, ◌≤◌, ◌<◌, ◌^◌, ℤ, pos, int_le, nat_eq, List, [], ◌∷◌, ◌++◌, length, map, Bool, true, false, ◌&&◌, ◌==◌, Option, Some, None, Ok, Err, if◌then◌else◌}
 use Rattle.std.specs.Ordering.{int_eq}
 use Rattle.std.specs.Cmp.Lexicographic.{pointwise}
+use Rattle.mm_num.specs.Result.{◌>>=◌}
 use Rattle.goal_ast.specs.declared.term.Sort.{Sort}
 use Rattle.goal_ast.specs.declared.term.Sort.TheVariants as sorts
 use Rattle.goal_ast.specs.declared.term.Term.TheVariants as terms
@@ -29,7 +30,7 @@ use Rattle.goal_sort.specs.declared.value.Statement.{Statement as AStatement}
 use Rattle.goal_sort.specs.declared.value.Sorted.{Sorted}
 use Rattle.goal_sort.specs.declared.value.Written.{Written}
 use Rattle.goal_sort.specs.declared.value.Written.TheVariants.{Literal, Negated, Other}
-use Rattle.goal_sort.specs.SortGiving.{◌>>=◌, Placed, given_at}
+use Rattle.goal_sort.specs.SortGiving.{Placed, given_at}
 use Rattle.goal_sort.specs.Operators.{unary_of, binary_of, by_literal_of, chain_of}
 use Rattle.goal_sort.specs.SortedNumbers.{a_number, a_truth, a_statement, unary_node, binary_node, by_node, chain_node, statement_of}
 

@@ -1,5 +1,7 @@
 -- How many tokens a body has after one more token of the file.
 use Rattle.std.proofs.Common.{◌≡◌, ℕ, ◌+◌, List, [], ◌∷◌, Bool, false, inl, inr, Option, Some, None, refl, sym, ap, subst}
+use Rattle.mm_num.specs.Option.{◌>>=◌}
+use Rattle.mm_num.proofs.OptionLaws.{bind_some, test_some}
 use Rattle.goal_ast.specs.declared.goal.Mode.{Mode}
 use Rattle.goal_token.specs.declared.token.Keyword.TheVariants as keywords
 use Rattle.goal_token.specs.declared.token.Placed.{Placed}
@@ -15,10 +17,9 @@ use Rattle.goal_text.specs.declared.state.Between.{Between}
 use Rattle.goal_text.specs.declared.state.Between.TheVariants as betweens
 use Rattle.goal_text.specs.declared.state.Part.{Part}
 use Rattle.goal_text.specs.declared.state.Part.TheVariants as parts
-use Rattle.goal_text.specs.Operands.{◌>>=◌, Reading, with_token, read_of}
+use Rattle.goal_text.specs.Operands.{Reading, with_token, read_of}
 use Rattle.goal_text.specs.Steps.{kind_of, GoalRead, FileRead, after_forall, in_bare, in_group, sort_next, comma_next, close_next, after_group, mode_next, command_next, dot_next, is_dot, is_forall, body_next, in_goal, goal_end, goal_on, goal_next, at_start, name_next, name_end, after_goals, after_goal, qed_end, in_session, in_file, file_with}
 use Rattle.goal_text.specs.Counts.{part_count, body_between, body_in, body_count}
-use Rattle.goal_text.proofs.OptionLaws.{bind_some, test_some}
 
 -- ---- what is no body
 

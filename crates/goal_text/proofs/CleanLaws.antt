@@ -1,6 +1,7 @@
 -- What stands in a body, and what stands in prefixes.
 use Rattle.std.proofs.Common.{◌≡◌, ◌≢◌, ℕ, ◌+◌, false, List, [], ◌∷◌, ◌++◌, length, map, Some, None, refl, sym, ap, ◌∙◌, length-append, arith}
 use Rattle.std.proofs.lemmas.List.{length-map}
+use Rattle.mm_num.proofs.OptionLaws.{bind_some}
 use Rattle.goal_ast.specs.declared.term.Sort.{Sort}
 use Rattle.goal_token.specs.declared.token.Keyword.TheVariants as keywords
 use Rattle.goal_token.specs.declared.token.Sign.TheVariants as signs
@@ -14,7 +15,6 @@ use Rattle.goal_text.specs.Operands.{Reading, with_token, with_tokens}
 use Rattle.goal_text.specs.Files.{sort, name, group, bounds, Groups, first_group, next_group}
 use Rattle.goal_text.specs.Steps.{kind_of, is_dot, is_forall}
 use Rattle.goal_text.specs.Refusals.{HasNo, names_in}
-use Rattle.goal_text.proofs.OptionLaws.{bind_some}
 use Rattle.goal_text.proofs.LandingLaws.{lands, tokens_append}
 use Rattle.goal_text.proofs.StandingLaws.{HasRead, is_front}
 use Rattle.goal_text.proofs.FileLaws.{no_dot, no_forall}

@@ -1,6 +1,9 @@
 -- Where reading stands after the tokens of a body or of a prefix.
 use Rattle.std.proofs.Common.{◌≡◌, ◌≢◌, ℕ, ◌+◌, ◌≤◌, inl, inr, List, [], ◌∷◌, ◌++◌, length, Option, Some, None, refl, sym, ap, subst, ◌∙◌, length-append, arith}
 use Rattle.std.proofs.lemmas.List.{length-map}
+use Rattle.std.proofs.lemmas.Option.{same_Some}
+use Rattle.mm_num.specs.Option.{◌>>=◌}
+use Rattle.mm_num.proofs.OptionLaws.{bind_some, test_some}
 use Rattle.goal_ast.specs.declared.goal.Name.{Name}
 use Rattle.goal_ast.specs.declared.term.Sort.{Sort}
 use Rattle.goal_token.specs.declared.token.Keyword.{Keyword}
@@ -21,12 +24,11 @@ use Rattle.goal_text.specs.declared.state.State.TheVariants as states
 use Rattle.goal_text.specs.declared.state.Between.TheVariants as betweens
 use Rattle.goal_text.specs.declared.state.Part.{Part}
 use Rattle.goal_text.specs.declared.state.Part.TheVariants as parts
-use Rattle.goal_text.specs.Operands.{◌>>=◌, Reading, follows, with_token, read_of}
+use Rattle.goal_text.specs.Operands.{Reading, follows, with_token, read_of}
 use Rattle.goal_text.specs.Files.{word, name, bounds, Prefixes}
 use Rattle.goal_text.specs.Steps.{kind_of, named, is_dot, is_forall, GoalRead, after_forall, in_bare, in_group, sort_next, comma_next, close_next, after_group, in_goal, FileRead, file_with, file_with_all, nothing_read}
 use Rattle.goal_text.specs.Counts.{binding_count, body_count, bound_count}
 use Rattle.goal_text.specs.Refusals.{HasNo, is_name_token, names_in, BodySoFar, BoundSoFar}
-use Rattle.goal_text.proofs.OptionLaws.{some_is, bind_some, test_some}
 use Rattle.goal_text.proofs.FileLaws.{all_append, in_the_goal, prefixes_read}
 use Rattle.goal_text.proofs.KnownLaws.{Is, kind_is, dot_is, forall_is}
 
@@ -57,8 +59,8 @@ goal_opens : (f g : FileRead) (p : ℕ) → file_with f (word keywords.Goal p) �
 goal_opens (done, states.Start) g p read = absurd cc
 goal_opens (done, states.Name) g p read = absurd cc
 goal_opens (done, states.NameEnd n) g p read = absurd cc
-goal_opens (done, states.Within w betweens.Open) g p read = (done, w, p, sym (some_is _ g read))
-goal_opens (done, states.Within w betweens.Ended) g p read = (done, w, p, sym (some_is _ g read))
+goal_opens (done, states.Within w betweens.Open) g p read = (done, w, p, sym (same_Some _ g read))
+goal_opens (done, states.Within w betweens.Ended) g p read = (done, w, p, sym (same_Some _ g read))
 goal_opens (done, states.Within w betweens.QedEnd) g p read = absurd cc
 goal_opens (done, states.Within w (betweens.Goal q bs parts.Head)) g p read = absurd cc
 goal_opens (done, states.Within w (betweens.Goal q bs parts.Binders)) g p read = absurd cc
@@ -87,7 +89,7 @@ after_head outer place bs head more f prefixes read =
     let g = goal_opens a.0 b.0 place b.1 in
     let start : file_with_all (in_the_goal g.0 g.1 g.2 [] parts.Head) (head ++ more) ≡ Some f = subst (λ g. file_with_all g (head ++ more) ≡ Some f) g.3 b.2 in
     let c = split_run (in_the_goal g.0 g.1 g.2 [] parts.Head) f head more start in
-    let same : c.0 ≡ in_the_goal g.0 g.1 g.2 bs parts.Head = some_is c.0 _ (sym c.1 ∙ prefixes_read g.0 g.1 g.2 prefixes) in
+    let same : c.0 ≡ in_the_goal g.0 g.1 g.2 bs parts.Head = same_Some c.0 _ (sym c.1 ∙ prefixes_read g.0 g.1 g.2 prefixes) in
     (g.0, g.1, g.2, subst (λ g. file_with_all g more ≡ Some f) same c.2)
 
 -- ---- in a body
@@ -95,7 +97,7 @@ after_head outer place bs head more f prefixes read =
 -- the part after a token of a goal
 goal_step : (done : List RawSession) (w : RawSession) (p : ℕ) (o : Option GoalRead) (g : FileRead) → ((o >>= λ g. Some (states.Within w (betweens.Goal p g.0 g.1))) >>= λ s. Some (done, s)) ≡ Some g
     → (k : GoalRead) × (o ≡ Some k) × (g ≡ in_the_goal done w p k.0 k.1)
-goal_step done w p (Some k) g read = (k, refl, sym (some_is _ g read))
+goal_step done w p (Some k) g read = (k, refl, sym (same_Some _ g read))
 goal_step done w p None g read = absurd cc
 
 -- reading stands in a body after so many tokens
@@ -110,13 +112,13 @@ body_step done w p bs r n t g other read =
       | inl k ↦ absurd (other (ap (λ (t : Placed). t.token) (dot_is t k.0)))
       | inr k ↦
           let s = bind_some (with_token r t) (λ s. Some (bs, parts.Body s (n + 1))) a.0 k.1 in
-          (done, w, p, bs, s.0, a.2 ∙ ap (λ (k : GoalRead). in_the_goal done w p k.0 k.1) (sym (some_is _ a.0 s.2)))
+          (done, w, p, bs, s.0, a.2 ∙ ap (λ (k : GoalRead). in_the_goal done w p k.0 k.1) (sym (same_Some _ a.0 s.2)))
     ]
 
 body_stays : (n : ℕ) (f g : FileRead) (ts : List Placed) → InBody n f → HasNo (tokens.Sign signs.Dot) ts → file_with_all f ts ≡ Some g → InBody (n + length ts) g
 body_stays n f g [] h no_dots read =
     let same : n ≡ n + length {A = Placed} [] = omega arith in
-    subst (λ n. InBody n g) same (subst (λ f. InBody n f) (some_is f g read) h)
+    subst (λ n. InBody n g) same (subst (λ f. InBody n f) (same_Some f g read) h)
 body_stays n f g (t ∷ ts) h no_dots read =
     let b = bind_some (file_with f t) (λ g. file_with_all g ts) g read in
     let one = body_step h.0 h.1 h.2 h.3 h.4 n t b.0 no_dots.0 (subst (λ f. file_with f t ≡ Some b.0) h.5 b.1) in
@@ -130,7 +132,7 @@ head_step done w p bs t g other read =
       | inl k ↦ absurd (other (ap (λ (t : Placed). t.token) (forall_is t k.0)))
       | inr k ↦
           let s = bind_some (with_token ([], None) t) (λ s. Some (bs, parts.Body s (0 + 1))) a.0 k.1 in
-          (done, w, p, bs, s.0, a.2 ∙ ap (λ (k : GoalRead). in_the_goal done w p k.0 k.1) (sym (some_is _ a.0 s.2)))
+          (done, w, p, bs, s.0, a.2 ∙ ap (λ (k : GoalRead). in_the_goal done w p k.0 k.1) (sym (same_Some _ a.0 s.2)))
     ]
 
 -- the tokens of a body so far are counted
@@ -192,18 +194,18 @@ abbrev pub InPrefix : ℕ → GoalRead → Type 0
 InPrefix n g = prefix_count (length g.0) g.1 ≡ Some n
 
 counted : (f g : GoalRead) (n : ℕ) → Some f ≡ Some g → InPrefix n f → InPrefix n g
-counted f g n is h = subst (λ g. InPrefix n g) (some_is f g is) h
+counted f g n is h = subst (λ g. InPrefix n g) (same_Some f g is) h
 
 plus_one : (bs : List RawBound) (names : List Named) (m : Named) (n : ℕ) → Some (length bs + length names) ≡ Some n → Some (length bs + length (names ++ m ∷ [])) ≡ Some (n + 1)
 plus_one bs names m n e =
-    let is : length bs + length names ≡ n = some_is _ n e in
+    let is : length bs + length names ≡ n = same_Some _ n e in
     let more : length (names ++ m ∷ []) ≡ length names + 1 = length-append names (m ∷ []) in
     let sum : length bs + length (names ++ m ∷ []) ≡ n + 1 = omega (arith, is, more) in
     ap (λ k. Some k) sum
 
 all_bound : (bs : List RawBound) (names : List Named) (s : Sort) (n : ℕ) → Some (length bs + length names) ≡ Some n → Some (length (bs ++ bounds s names)) ≡ Some (n + 0)
 all_bound bs names s n e =
-    let is : length bs + length names ≡ n = some_is _ n e in
+    let is : length bs + length names ≡ n = same_Some _ n e in
     let last : length (bounds s names) ≡ length names = length-map names _ in
     let more : length (bs ++ bounds s names) ≡ length bs + length (bounds s names) = length-append bs (bounds s names) in
     let sum : length (bs ++ bounds s names) ≡ n + 0 = omega (arith, is, last, more) in
@@ -213,10 +215,10 @@ no_more : (k n : ℕ) → Some k ≡ Some n → Some k ≡ Some (n + 0)
 no_more k n e = let same : n ≡ n + 0 = omega arith in e ∙ ap (λ k. Some k) same
 
 no_names : (bs : List RawBound) (n : ℕ) → Some (length bs) ≡ Some n → Some (length bs + 0) ≡ Some (n + 0)
-no_names bs n e = let is : length bs ≡ n = some_is _ n e in let sum : length bs + 0 ≡ n + 0 = omega (arith, is) in ap (λ k. Some k) sum
+no_names bs n e = let is : length bs ≡ n = same_Some _ n e in let sum : length bs + 0 ≡ n + 0 = omega (arith, is) in ap (λ k. Some k) sum
 
 one_name : (bs : List RawBound) (n : ℕ) → Some (length bs) ≡ Some n → Some (length bs + 1) ≡ Some (n + 1)
-one_name bs n e = let is : length bs ≡ n = some_is _ n e in let sum : length bs + 1 ≡ n + 1 = omega (arith, is) in ap (λ k. Some k) sum
+one_name bs n e = let is : length bs ≡ n = same_Some _ n e in let sum : length bs + 1 ≡ n + 1 = omega (arith, is) in ap (λ k. Some k) sum
 
 forall_counts : (bs : List RawBound) (k : Kind) (p n : ℕ) (g : GoalRead) → Some (length bs) ≡ Some n → after_forall bs k p ≡ Some g → InPrefix (n + name_of_kind k) g
 unfolding name_of_kind
@@ -355,7 +357,7 @@ goal_part done w p bs (parts.ModeEnd e m) t n g h read = absurd cc
 prefix_stays : (n : ℕ) (f g : FileRead) (ts : List Placed) → PrefixOpen n f → HasNo (tokens.Sign signs.Comma) ts → file_with_all f ts ≡ Some g → PrefixOpen (n + names_in ts) g
 prefix_stays n f g [] h free read =
     let same : n ≡ n + 0 = omega arith in
-    subst (λ n. PrefixOpen n g) same (subst (λ f. PrefixOpen n f) (some_is f g read) h)
+    subst (λ n. PrefixOpen n g) same (subst (λ f. PrefixOpen n f) (same_Some f g read) h)
 prefix_stays n f g (t ∷ ts) h free read =
     let b = bind_some (file_with f t) (λ g. file_with_all g ts) g read in
     let a = goal_part h.0 h.1 h.2 h.3.0 h.3.1 t n b.0 h.4 (subst (λ f. file_with f t ≡ Some b.0) h.5 b.1) in
@@ -364,7 +366,7 @@ prefix_stays n f g (t ∷ ts) h free read =
     subst (λ n. PrefixOpen n g) same (prefix_stays (n + name_of_kind (kind_of t.token)) b.0 g ts (h.0, h.1, h.2, a.0, one, a.2) free.1 b.2)
 
 forall_opens : (done : List RawSession) (w : RawSession) (p q : ℕ) (bs : List RawBound) (g : FileRead) → file_with (in_the_goal done w p bs parts.Head) (word keywords.Forall q) ≡ Some g → PrefixOpen (length bs) g
-forall_opens done w p q bs g read = (done, w, p, (bs, parts.Binders), refl, sym (some_is _ g read))
+forall_opens done w p q bs g read = (done, w, p, (bs, parts.Binders), refl, sym (same_Some _ g read))
 
 -- where a name may come in a prefix, it's one that the goal binds
 name_bound : (done : List RawSession) (w : RawSession) (p : ℕ) (bs : List RawBound) (part : Part) (x : Name) (q n : ℕ) (g : FileRead) → InPrefix n (bs, part) → file_with (in_the_goal done w p bs part) (name (named x q)) ≡ Some g

@@ -1,6 +1,9 @@
 -- The tokens of a file are read as its sessions.
 use Rattle.std.proofs.Common.{◌≡◌, ◌≢◌, ℕ, ◌+◌, Bool, true, false, List, [], ◌∷◌, ◌++◌, length, map, Option, Some, None, refl, sym, ap, subst, ◌∙◌, append_assoc, arith}
 use Rattle.std.proofs.lemmas.List.{append-nil}
+use Rattle.std.proofs.lemmas.Option.{same_Some}
+use Rattle.mm_num.specs.Option.{◌>>=◌}
+use Rattle.mm_num.proofs.OptionLaws.{bind_some}
 use Rattle.goal_ast.specs.declared.goal.Mode.{Mode}
 use Rattle.goal_ast.specs.declared.goal.Mode.TheVariants.{Lia, Nia}
 use Rattle.goal_ast.specs.declared.goal.Name.{Name}
@@ -24,10 +27,9 @@ use Rattle.goal_text.specs.declared.state.Between.TheVariants as betweens
 use Rattle.goal_text.specs.declared.state.Part.{Part}
 use Rattle.goal_text.specs.declared.state.Part.TheVariants as parts
 use Rattle.goal_text.specs.Grammar.{sign, Expr}
-use Rattle.goal_text.specs.Operands.{◌>>=◌, Reading, follows, with_token, with_tokens, read_of}
+use Rattle.goal_text.specs.Operands.{Reading, follows, with_token, with_tokens, read_of}
 use Rattle.goal_text.specs.Files.{word, sort, name, group, bounds, Groups, first_group, next_group, Prefixes, no_prefix, bare_prefix, grouped_prefix, mode_word, MayProve, at_once, proof, MayEnd, no_end, qed, Goals, no_goal, next_goal, Sessions, no_session, next_session}
 use Rattle.goal_text.specs.Steps.{kind_of, is_dot, is_forall, FileRead, file_with, file_with_all, nothing_read, file_of}
-use Rattle.goal_text.proofs.OptionLaws.{some_is, bind_some}
 use Rattle.goal_text.proofs.LandingLaws.{lands, has_token, finished_over}
 
 -- ---- one after the other
@@ -161,7 +163,7 @@ pub body_reads : (done : List RawSession) (w : RawSession) (p : ℕ) (bs : List 
     → file_with_all (in_the_goal done w p bs (parts.Body r n)) ts ≡ Some (in_the_goal done w p bs (parts.Body s (n + length ts)))
 body_reads done w p bs r s n [] is =
     let same : n ≡ n + 0 = omega arith in
-    ap (λ r. Some (in_the_goal done w p bs (parts.Body r n))) (some_is r s is) ∙ ap (λ k. Some (in_the_goal done w p bs (parts.Body s k))) same
+    ap (λ r. Some (in_the_goal done w p bs (parts.Body r n))) (same_Some r s is) ∙ ap (λ k. Some (in_the_goal done w p bs (parts.Body s k))) same
 body_reads done w p bs r s n (t ∷ ts) is =
     let k = bind_some (with_token r t) (λ q. with_tokens q ts) s is in
     let same : (n + 1) + length ts ≡ n + length (t ∷ ts) = omega arith in
@@ -270,5 +272,5 @@ pub one_file : {ss others : List RawSession} {ts : List Placed} → Sessions ss 
 one_file {ss} {others} a b =
     let k = sessions_read a in
     let j = sessions_read b in
-    let same : k.left ≡ j.left = some_is k.left j.left (sym k.read ∙ j.read) in
-    some_is ss others (sym k.whole ∙ ap file_of same ∙ j.whole)
+    let same : k.left ≡ j.left = same_Some k.left j.left (sym k.read ∙ j.read) in
+    same_Some ss others (sym k.whole ∙ ap file_of same ∙ j.whole)

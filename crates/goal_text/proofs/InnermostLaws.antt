@@ -2,6 +2,8 @@
 use Rattle.std.proofs.Common.{◌≡◌, ◌≢◌, ℕ, List, [], ◌∷◌, Bool, true, false, ◌⊎◌, inl, inr, Option, Some, None, refl, sym, ap, subst, ◌∙◌, arith}
 use Rattle.std.specs.Prelude.{nat_le, nat_lt, ◌&&◌, not, if◌then◌else◌}
 use Rattle.std.proofs.lemmas.Bool.Decides.{nat_tests}
+use Rattle.std.proofs.lemmas.Option.{same_Some}
+use Rattle.mm_num.specs.Option.{◌>>=◌}
 use Rattle.goal_token.specs.declared.token.Sign.{Sign}
 use Rattle.goal_token.specs.declared.token.Token.{Token}
 use Rattle.goal_sort.specs.declared.raw.RawExpr.{RawExpr}
@@ -9,8 +11,7 @@ use Rattle.goal_text.specs.declared.frame.Frame.{Frame}
 use Rattle.goal_text.specs.declared.frame.Frame.TheVariants.{Open, Prefix, Infix, Chain, First, Last}
 use Rattle.goal_text.specs.declared.precedence.Levels.{Levels}
 use Rattle.goal_text.specs.Levels.{can_chain}
-use Rattle.goal_text.specs.Operands.{◌>>=◌, highest, Whole, closed, chain_with, Reading, attached, joins, ends_group, finished, opens, token_follows, follows}
-use Rattle.goal_text.proofs.OptionLaws.{some_is}
+use Rattle.goal_text.specs.Operands.{highest, Whole, closed, chain_with, Reading, attached, joins, ends_group, finished, opens, token_follows, follows}
 use Rattle.goal_text.specs.Innermost.{is_chained, ends_top, chained_top, landed, closed_top, is_group, is_in_group, is_at_first, with_first}
 
 -- ---- signs
@@ -85,7 +86,7 @@ after_end {B} f fs gs e w k m is same = by_end (closed f e) is
   where
     by_end : (o : Option Whole) → ended_by fs o ≡ Some (gs, w) → (o >>= k) ≡ m gs w
     by_end (Some v) is =
-        let j = some_is {A = List Frame × Whole} (fs, v) (gs, w) is in
+        let j = same_Some {A = List Frame × Whole} (fs, v) (gs, w) is in
         let a = ap (λ (p : List Frame × Whole). p.0) j in
         let b = ap (λ (p : List Frame × Whole). p.1) j in
         subst (λ v. k v ≡ m gs w) (sym b) (subst (λ gs. k w ≡ m gs w) a (sym same))

@@ -1,6 +1,9 @@
 -- What was read of a file is the front of one, and what was read to the end is one.
 use Rattle.std.proofs.Common.{◌≡◌, ◌≢◌, ℕ, ◌+◌, true, ◌⊎◌, inl, inr, List, [], ◌∷◌, ◌++◌, length, map, Some, None, refl, sym, ap, subst, ◌∙◌, append_assoc, length-append, arith}
 use Rattle.std.proofs.lemmas.List.{append-nil, map-append}
+use Rattle.std.proofs.lemmas.Option.{same_Some}
+use Rattle.mm_num.specs.Option.{◌>>=◌}
+use Rattle.mm_num.proofs.OptionLaws.{bind_some, test_some}
 use Rattle.goal_ast.specs.declared.goal.Name.{Name}
 use Rattle.goal_ast.specs.declared.term.Sort.{Sort}
 use Rattle.goal_token.specs.declared.token.Keyword.{Keyword}
@@ -18,10 +21,9 @@ use Rattle.goal_text.specs.declared.state.Named.{Named}
 use Rattle.goal_text.specs.declared.state.Part.{Part}
 use Rattle.goal_text.specs.declared.state.Part.TheVariants as parts
 use Rattle.goal_text.specs.Grammar.{sign, Expr}
-use Rattle.goal_text.specs.Operands.{◌>>=◌, Reading, with_token, read_of}
+use Rattle.goal_text.specs.Operands.{Reading, with_token, read_of}
 use Rattle.goal_text.specs.Files.{word, sort, name, group, bounds, Groups, first_group, next_group, Prefixes, bare_prefix, grouped_prefix, mode_word, MayProve, at_once, proof}
 use Rattle.goal_text.specs.Steps.{kind_of, sign_kind, named, GoalRead, is_dot, is_forall, after_forall, in_bare, in_group, sort_next, comma_next, close_next, after_group, mode_next, command_next, dot_next, body_next, in_goal}
-use Rattle.goal_text.proofs.OptionLaws.{some_is, bind_some, test_some}
 use Rattle.goal_text.proofs.StandingLaws.{HasRead, token_reads, reading_ends}
 
 -- ---- what a token is
@@ -109,7 +111,7 @@ abbrev pub Leads : GoalRead → List Placed → Placed → Type 0
 Leads g ts t = KnownPart g.0 g.1 (ts ++ t ∷ [])
 
 led : (f g : GoalRead) (ts : List Placed) (t : Placed) → Some f ≡ Some g → Leads f ts t → Leads g ts t
-led f g ts t is k = subst (λ (g : GoalRead). Leads g ts t) (some_is f g is) k
+led f g ts t is k = subst (λ (g : GoalRead). Leads g ts t) (same_Some f g is) k
 
 forall_known : (bs : List RawBound) (t : Placed) (k : Kind) → Is k t → (ts : List Placed) (g : GoalRead) → PrefixBegun bs ts → after_forall bs k t.at ≡ Some g → Leads g ts t
 forall_known bs t (kinds.Name x) is ts g h read = led _ g ts t read (ts, h, (λ e. cc), ap (λ t. ts ++ t ∷ []) is)

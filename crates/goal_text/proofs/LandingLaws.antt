@@ -5,6 +5,9 @@ use Rattle.std.specs.Option.{option_map_or}
 use Rattle.std.specs.List.{AllByRecursion}
 use Rattle.std.proofs.lemmas.Bool.{and_parts}
 use Rattle.std.proofs.lemmas.List.{append-nil}
+use Rattle.std.proofs.lemmas.Option.{same_Some}
+use Rattle.mm_num.specs.Option.{◌>>=◌}
+use Rattle.mm_num.proofs.OptionLaws.{bind_some}
 use Rattle.goal_token.specs.declared.token.Sign.{Sign}
 use Rattle.goal_token.specs.declared.token.Sign.TheVariants as signs
 use Rattle.goal_token.specs.declared.token.Function.{Function}
@@ -20,8 +23,7 @@ use Rattle.goal_text.specs.declared.frame.Frame.TheVariants.{Open, Prefix, Infix
 use Rattle.goal_text.specs.declared.precedence.Levels.{Levels}
 use Rattle.goal_text.specs.Levels.{between, infix_levels, prefix_level, can_chain, arity}
 use Rattle.goal_text.specs.Grammar.{node, sign, function, leaf_of, Expr, leaf, grouped, applied, applied_to_two, prefixed, joined, chained}
-use Rattle.goal_text.specs.Operands.{◌>>=◌, Whole, Reading, highest, room, right_of, level_of, prefix_of, closed, chain_with, joins, ends_group, finished, call, sign_opens, opens, sign_follows, follows, with_token, with_tokens, read_of}
-use Rattle.goal_text.proofs.OptionLaws.{some_is, bind_some}
+use Rattle.goal_text.specs.Operands.{Whole, Reading, highest, room, right_of, level_of, prefix_of, closed, chain_with, joins, ends_group, finished, call, sign_opens, opens, sign_follows, follows, with_token, with_tokens, read_of}
 use Rattle.goal_text.proofs.LevelLaws.{sides, no_tie, no_tie_before, infix_high, prefix_high}
 
 -- ---- several constructs that end in turn
@@ -77,7 +79,7 @@ chain_is signs.Dot c = absurd cc
 chain_is signs.Not c = absurd cc
 
 chain_left : (t : Sign) (l : Levels) → can_chain t ≡ true → infix_levels t ≡ Some l → (l.left ≡ 69) × (l.level ≡ 70)
-chain_left t l c e = let k = some_is _ _ (sym (chain_is t c) ∙ e) in (sym (ap (λ (l : Levels). l.left) k), sym (ap (λ (l : Levels). l.level) k))
+chain_left t l c e = let k = same_Some _ _ (sym (chain_is t c) ∙ e) in (sym (ap (λ (l : Levels). l.left) k), sym (ap (λ (l : Levels). l.level) k))
 
 pub chain_right : (t : Sign) → can_chain t ≡ true → right_of t ≡ 69
 chain_right t c = ap (λ o. option_map_or (λ (l : Levels). l.right) o 0) (chain_is t c)
@@ -120,27 +122,27 @@ no_room n f t l below is le = decided (nat_le l.level (highest f)) refl
 -- it passes over them to what they make
 pub joins_over : (over : List Frame) (last : Whole) (fs : List Frame) (w : Whole) (t : Sign) (q : ℕ) (l : Levels) → closes over last ≡ Some w → AreBelow w.1 over → infix_levels t ≡ Some l → w.1 ≤ l.left
     → joins t q l (over ++ fs) last ≡ joins t q l fs w
-joins_over [] last fs w t q l whole below is le = ap (joins t q l fs) (some_is last w whole)
+joins_over [] last fs w t q l whole below is le = ap (joins t q l fs) (same_Some last w whole)
 joins_over (f ∷ over) last fs w t q l whole below is le =
     let v = bind_some (closed f last.0) (λ v. closes over v) w whole in
     rw (no_chain w.1 f t l last.0 below.0 is le, joins) (rw (no_room w.1 f t l below.0 is le, joins) (rw (v.1, joins) (joins_over over v.0 fs w t q l v.2 below.1 is le)))
 
 -- the end of a group passes over them too
 pub ends_over : (over : List Frame) (last : Whole) (fs : List Frame) (w : Whole) → closes over last ≡ Some w → ends_group (over ++ fs) last.0 ≡ ends_group fs w.0
-ends_over [] last fs w whole = ap (λ (w : Whole). ends_group fs w.0) (some_is last w whole)
+ends_over [] last fs w whole = ap (λ (w : Whole). ends_group fs w.0) (same_Some last w whole)
 ends_over (f ∷ over) last fs w whole =
     let v = bind_some (closed f last.0) (λ v. closes over v) w whole in
     rw (v.1, ends_group) (ends_over over v.0 fs w v.2)
 
 -- and so does the end of the whole
 pub finished_over : (over : List Frame) (last : Whole) (w : Whole) → closes over last ≡ Some w → finished over last.0 ≡ Some w.0
-finished_over [] last w whole = ap (λ (w : Whole). Some w.0) (some_is last w whole)
+finished_over [] last w whole = ap (λ (w : Whole). Some w.0) (same_Some last w whole)
 finished_over (f ∷ over) last w whole =
     let v = bind_some (closed f last.0) (λ v. closes over v) w whole in
     rw (v.1, finished) (finished_over over v.0 w v.2)
 
 pub closes_more : (over : List Frame) (last : Whole) (f : Frame) (v : Whole) → closes over last ≡ Some v → closes (over ++ f ∷ []) last ≡ closed f v.0
-closes_more [] last f v whole = ap (λ (w : Whole). closed f w.0 >>= λ v. Some v) (some_is last v whole) ∙ bind_id (closed f v.0)
+closes_more [] last f v whole = ap (λ (w : Whole). closed f w.0 >>= λ v. Some v) (same_Some last v whole) ∙ bind_id (closed f v.0)
   where
     bind_id : {A : Type 0} (o : Option A) → (o >>= λ x. Some x) ≡ o
     bind_id (Some x) = refl
@@ -249,9 +251,9 @@ leaf_lands : (fs : List Frame) (h : Head) (t : Placed) → leaf_of t.token ≡ S
 leaf_lands fs h t is = opened t.token is
   where
     opened : (k : Token) → leaf_of k ≡ Some h → opens k t.at fs ≡ Some (fs, Some (node h t.at [], 0))
-    opened (tokens.Literal n) e = ap (λ h. Some (fs, Some (node h t.at [], 0))) (some_is _ h e)
-    opened (tokens.Name x) e = ap (λ h. Some (fs, Some (node h t.at [], 0))) (some_is _ h e)
-    opened (tokens.Constant c) e = ap (λ h. Some (fs, Some (node h t.at [], 0))) (some_is _ h e)
+    opened (tokens.Literal n) e = ap (λ h. Some (fs, Some (node h t.at [], 0))) (same_Some _ h e)
+    opened (tokens.Name x) e = ap (λ h. Some (fs, Some (node h t.at [], 0))) (same_Some _ h e)
+    opened (tokens.Constant c) e = ap (λ h. Some (fs, Some (node h t.at [], 0))) (same_Some _ h e)
     opened (tokens.Keyword k) e = absurd cc
     opened (tokens.Sort s) e = absurd cc
     opened (tokens.Function f) e = absurd cc
@@ -358,7 +360,7 @@ two_start : (fs : List Frame) (f : Function) (p : ℕ) (a : RawExpr) (ts us : Li
 two_start fs f p a ts us low is k has =
     let fits = k.fits in
     let lone : k.over ≡ [] = none_below k.level k.over k.below (omega arith) in
-    let last : k.last ≡ (a, k.level) = some_is _ _ (sym (ap (λ over. closes over k.last) lone) ∙ k.whole) in
+    let last : k.last ≡ (a, k.level) = same_Some _ _ (sym (ap (λ over. closes over k.last) lone) ∙ k.whole) in
     let read : with_tokens (First f p ∷ fs, None) ts ≡ Some (First f p ∷ fs, Some (a, k.level)) =
     k.read ∙ ap (λ over. Some (over ++ First f p ∷ fs, Some k.last)) lone ∙ ap (λ w. Some (First f p ∷ fs, Some w)) last in
     call_opens fs f p (First f p) (ts ++ us) low (rw is refl)
@@ -424,4 +426,4 @@ reads_expression {e} {ts} d =
 
 -- tokens are those of at most one expression
 pub one_expression : {e f : RawExpr} {ts : List Placed} → Expr 100 e ts → Expr 100 f ts → e ≡ f
-one_expression {e} {f} c d = some_is e f (sym (reads_expression c) ∙ reads_expression d)
+one_expression {e} {f} c d = same_Some e f (sym (reads_expression c) ∙ reads_expression d)

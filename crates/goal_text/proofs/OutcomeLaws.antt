@@ -4,6 +4,9 @@ use Rattle.std.specs.Prelude.{nat_le, not, ◌&&◌, ◌||◌, Result, Ok, Err}
 use Rattle.std.specs.Option.{option_map_or}
 use Rattle.std.proofs.lemmas.Bool.{and_parts}
 use Rattle.std.proofs.lemmas.List.{append-nil}
+use Rattle.std.proofs.lemmas.Option.{same_Some}
+use Rattle.mm_num.specs.Option.{◌>>=◌}
+use Rattle.mm_num.proofs.OptionLaws.{bind_some, test_some}
 use Rattle.goal_ast.specs.declared.goal.Name.{Name}
 use Rattle.goal_token.specs.declared.token.Keyword.{Keyword}
 use Rattle.goal_token.specs.declared.token.Keyword.TheVariants as keywords
@@ -24,13 +27,12 @@ use Rattle.goal_text.specs.declared.state.Between.TheVariants as betweens
 use Rattle.goal_text.specs.declared.state.Part.{Part}
 use Rattle.goal_text.specs.declared.state.Part.TheVariants as parts
 use Rattle.goal_text.specs.Grammar.{sign}
-use Rattle.goal_text.specs.Operands.{◌>>=◌, Reading}
+use Rattle.goal_text.specs.Operands.{Reading}
 use Rattle.goal_text.specs.Files.{word, name, Prefixes, Sessions, no_session}
 use Rattle.goal_text.specs.Steps.{kind_of, named, is_dot, FileRead, file_with, file_with_all, nothing_read, file_of}
 use Rattle.goal_text.specs.Counts.{body_count, bound_count}
 use Rattle.goal_text.specs.Outcome.{is_session, is_goal, is_name, Begun, one_if, begun_with, is_many, is_long, limit_at, ended, outcome}
 use Rattle.goal_text.specs.Refusals.{IsFront, IsBad, IsBadEnd, count_one, count, IsOneTooMany, BodySoFar, names_in, BoundSoFar, IsTooLong, IsLong, IsMany, IsWithin, At}
-use Rattle.goal_text.proofs.OptionLaws.{some_is, bind_some, test_some}
 use Rattle.goal_text.proofs.FileLaws.{all_append, after_all, sessions_read}
 use Rattle.goal_text.proofs.KnownLaws.{Is, kind_is, dot_is, KnownPart, InGroups}
 use Rattle.goal_text.proofs.StandingLaws.{HasRead}
@@ -219,7 +221,7 @@ goal_in done w p bs part ts h = let b = h.7 in (h.0 ++ word keywords.Session h.2
 body_long : (ts : List Placed) (p : ℕ) (bs : List RawBound) (r : Reading) (k n : ℕ) → GoalIn ts p bs (parts.Body r k) → Some k ≡ Some n → 2048 ≤ n → BodySoFar ts 2048
 body_long ts p bs r k n g is le =
     let b = g.2 in
-    let same : k ≡ n = some_is k n is in
+    let same : k ≡ n = same_Some k n is in
     let size : k ≡ length b.1 = b.3.1 in
     body_made ts g.0 b.0 b.1 p bs r b.2 b.3.0 (g.3 ∙ ap (λ vs. g.0 ++ word keywords.Goal p ∷ vs) b.4) (omega (arith, le, same, size))
 
@@ -320,11 +322,11 @@ grouped_long ts p bs names n outer vs ys o spelled inner (inr f) is le =
     }
 
 long_names : (f : FileRead) (ts : List Placed) (n : ℕ) → KnownFile f.0 f.1 ts → bound_count f ≡ Some n → 256 ≤ n → BoundSoFar ts 256
-long_names (done, states.Within w (betweens.Goal p bs parts.Binders)) ts n h is le = binders_long ts p bs n (goal_in done w p bs parts.Binders ts h) (some_is _ n is) le
-long_names (done, states.Within w (betweens.Goal p bs (parts.Bare names))) ts n h is le = bare_long ts p bs names n (goal_in done w p bs (parts.Bare names) ts h) (some_is _ n is) le
+long_names (done, states.Within w (betweens.Goal p bs parts.Binders)) ts n h is le = binders_long ts p bs n (goal_in done w p bs parts.Binders ts h) (same_Some _ n is) le
+long_names (done, states.Within w (betweens.Goal p bs (parts.Bare names))) ts n h is le = bare_long ts p bs names n (goal_in done w p bs (parts.Bare names) ts h) (same_Some _ n is) le
 long_names (done, states.Within w (betweens.Goal p bs (parts.Grouped names))) ts n h is le =
     let g = goal_in done w p bs (parts.Grouped names) ts h in
-    grouped_long ts p bs names n g.0 g.1 g.2.0 g.2.1 g.3 g.2.3 g.2.2 (some_is _ n is) le
+    grouped_long ts p bs names n g.0 g.1 g.2.0 g.2.1 g.3 g.2.3 g.2.2 (same_Some _ n is) le
 long_names (done, states.Within w (betweens.Goal p bs (parts.Body r k))) ts n h is le = absurd cc
 long_names (done, states.Within w (betweens.Goal p bs parts.Head)) ts n h is le = absurd cc
 long_names (done, states.Within w (betweens.Goal p bs (parts.BareSort names))) ts n h is le = absurd cc
@@ -397,9 +399,9 @@ LimitIs ts t fail = (IsMany ts t × (Many t.at ≡ fail)) ⊎ (IsLong ts t × (L
 limit_is : (f : FileRead) (b : Begun) (ts : List Placed) (t : Placed) (fail : TextFail) → KnownFile f.0 f.1 ts → AreBegun b ts → IsFront (ts ++ t ∷ []) → limit_at f b t ≡ Some fail → LimitIs ts t fail
 limit_is f b ts t fail h begun front e =
     elim (test_some (is_many b (kind_of t.token)) (Some (Many t.at)) (cond (is_long f (kind_of t.token)) (Some (Long t.at)) None) fail e) [
-      | inl k ↦ inl ((front, many_is b ts t begun k.0), some_is _ fail k.1)
+      | inl k ↦ inl ((front, many_is b ts t begun k.0), same_Some _ fail k.1)
       | inr k ↦ elim (test_some (is_long f (kind_of t.token)) (Some (Long t.at)) None fail k.1) [
-        | inl j ↦ inr ((front, long_is f ts t h j.0), some_is _ fail j.1)
+        | inl j ↦ inr ((front, long_is f ts t h j.0), same_Some _ fail j.1)
         | inr j ↦ absurd cc
       ]
     ]
@@ -471,7 +473,7 @@ bad_token f ts t h read none = (front_of f ts h, λ front. let k = front_run f t
 end_is_right : (end : ℕ) (f : FileRead) (ts : List Placed) (o : Option (List RawSession)) → KnownFile f.0 f.1 ts → file_with_all nothing_read ts ≡ Some f → IsWithin ts → file_of f ≡ o → IsRight ts end (ended end o)
 end_is_right end f ts (Some ss) h read within is = (file_ends f ts ss h is, within)
 end_is_right end f ts None h read within is =
-    inr ((front_of f ts h, λ ss file. let k = sessions_read file in let same : k.left ≡ f = some_is k.left f (sym k.read ∙ read) in let j = sym k.whole ∙ ap file_of same ∙ is in cc), within, refl)
+    inr ((front_of f ts h, λ ss file. let k = sessions_read file in let same : k.left ≡ f = same_Some k.left f (sym k.read ∙ read) in let j = sym k.whole ∙ ap file_of same ∙ is in cc), within, refl)
 
 refused : (before after all : List Placed) (t : Placed) (end : ℕ) (fail : TextFail) → all ≡ before ++ t ∷ after → IsWithin before → LimitIs before t fail → IsRight all end (Err fail)
 refused before after all t end fail split within (inl k) = subst (λ fail. IsRight all end (Err fail)) k.1 (before, after, t, split, k.0, within, refl)

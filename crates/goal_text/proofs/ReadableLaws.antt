@@ -3,6 +3,7 @@ use Rattle.std.proofs.Common.{◌≡◌, ℕ, ◌≤◌, Bool, true, List, [], �
 use Rattle.std.specs.Prelude.{pos, int_le, ◌&&◌}
 use Rattle.std.specs.List.{AllByRecursion}
 use Rattle.std.proofs.lemmas.Int.{ints}
+use Rattle.std.proofs.lemmas.Option.{same_Some}
 use Rattle.goal_ast.specs.declared.term.Sort.{Sort}
 use Rattle.goal_ast.specs.Sorted.{is_small}
 use Rattle.goal_token.specs.declared.token.Keyword.TheVariants as keywords
@@ -23,7 +24,6 @@ use Rattle.goal_sort.specs.Sorting.{head_fits, all_true, literals_level, literal
 use Rattle.goal_text.specs.declared.state.Named.{Named}
 use Rattle.goal_text.specs.Grammar.{node, sign, leaf_of, constant_text, Expr, leaf, grouped, applied, applied_to_two, prefixed, joined, chained}
 use Rattle.goal_text.specs.Files.{word, sort, name, group, bounds, Groups, first_group, next_group, Prefixes, no_prefix, bare_prefix, grouped_prefix}
-use Rattle.goal_text.proofs.OptionLaws.{some_is}
 use Rattle.goal_sort.proofs.NumberLaws.{raw_size}
 
 -- ---- what holds of each element of two lists
@@ -67,9 +67,9 @@ both_true : (a b : Bool) → a ≡ true → b ≡ true → a && b ≡ true
 both_true a b p q = rw p q
 
 leaf_fits : (t : Token) (h : Head) → leaf_of t ≡ Some h → IsSmallToken t → head_fits h ≡ true
-leaf_fits (tokens.Literal n) h is small = ap head_fits (some_is h (heads.Lit n) (sym is)) ∙ both_true (int_le (pos 0) n) (is_small n) (grind (arith, ints, small)) (grind (arith, small))
-leaf_fits (tokens.Name x) h is small = ap head_fits (some_is h (heads.Name x) (sym is))
-leaf_fits (tokens.Constant c) h is small = ap head_fits (some_is h (heads.Name (record { bytes = constant_text c })) (sym is))
+leaf_fits (tokens.Literal n) h is small = ap head_fits (same_Some h (heads.Lit n) (sym is)) ∙ both_true (int_le (pos 0) n) (is_small n) (grind (arith, ints, small)) (grind (arith, small))
+leaf_fits (tokens.Name x) h is small = ap head_fits (same_Some h (heads.Name x) (sym is))
+leaf_fits (tokens.Constant c) h is small = ap head_fits (same_Some h (heads.Name (record { bytes = constant_text c })) (sym is))
 leaf_fits (tokens.Keyword k) h is small = absurd cc
 leaf_fits (tokens.Sort s) h is small = absurd cc
 leaf_fits (tokens.Function f) h is small = absurd cc

@@ -1,6 +1,9 @@
 -- What was read of a file is the front of one, and what was read to the end is one.
 use Rattle.std.proofs.Common.{◌≡◌, ℕ, List, [], ◌∷◌, ◌++◌, Some, refl, sym, ap, subst, ◌∙◌, append_assoc}
 use Rattle.std.proofs.lemmas.List.{append-nil}
+use Rattle.std.proofs.lemmas.Option.{same_Some}
+use Rattle.mm_num.specs.Option.{◌>>=◌}
+use Rattle.mm_num.proofs.OptionLaws.{bind_some}
 use Rattle.goal_ast.specs.declared.goal.Mode.{Mode}
 use Rattle.goal_token.specs.declared.token.Keyword.TheVariants as keywords
 use Rattle.goal_token.specs.declared.token.Sign.TheVariants as signs
@@ -19,10 +22,8 @@ use Rattle.goal_text.specs.declared.state.Between.TheVariants as betweens
 use Rattle.goal_text.specs.declared.state.Part.{Part}
 use Rattle.goal_text.specs.declared.state.Part.TheVariants as parts
 use Rattle.goal_text.specs.Grammar.{sign}
-use Rattle.goal_text.specs.Operands.{◌>>=◌}
 use Rattle.goal_text.specs.Files.{word, name, no_prefix, mode_word, MayEnd, no_end, qed, Goals, no_goal, next_goal, Sessions, next_session}
 use Rattle.goal_text.specs.Steps.{kind_of, in_goal, goal_end, goal_on, goal_next, FileRead, at_start, name_next, name_end, after_goals, after_goal, qed_end, file_with, file_with_all, file_of}
-use Rattle.goal_text.proofs.OptionLaws.{some_is, bind_some}
 use Rattle.goal_text.proofs.KnownLaws.{Is, kind_is, KnownPart, snoc, part_known}
 
 -- ---- what was read of a session and of a file
@@ -52,7 +53,7 @@ abbrev pub FileLeads : FileRead → List Placed → Placed → Type 0
 FileLeads f ts t = KnownFile f.0 f.1 (ts ++ t ∷ [])
 
 led : (f g : FileRead) (ts : List Placed) (t : Placed) → Some f ≡ Some g → FileLeads f ts t → FileLeads g ts t
-led f g ts t is k = subst (λ (g : FileRead). FileLeads g ts t) (some_is f g is) k
+led f g ts t is k = subst (λ (g : FileRead). FileLeads g ts t) (same_Some f g is) k
 
 -- ---- one more token between goals
 
@@ -208,7 +209,7 @@ goal_on_known done w p bs part t ts g h read =
     let k = bind_some (in_goal bs part t) (λ g. Some (states.Within w (betweens.Goal p g.0 g.1))) s.0 s.1 in
     let b = h.7 in
     let whole : FileRead = (done, states.Within w (betweens.Goal p k.0.0 k.0.1)) in
-    led whole g ts t (ap (λ s. Some (done, s)) (some_is _ s.0 k.2) ∙ s.2)
+    led whole g ts t (ap (λ s. Some (done, s)) (same_Some _ s.0 k.2) ∙ s.2)
     (h.0, h.1 ++ t ∷ [], h.2, h.3, h.4, h.5, h.6, (b.0, b.1 ++ t ∷ [], b.2, part_known bs part t b.1 k.0 b.3 k.1, snoc h.1 b.0 (word keywords.Goal p ∷ b.1) t b.4), more_within h.0 h.2 h.3 h.4 h.1 ts t h.8)
 
 goal_known : (done : List RawSession) (w : RawSession) (p : ℕ) (bs : List RawBound) (part : Part) (t : Placed) (ts : List Placed) (g : FileRead)
@@ -240,17 +241,17 @@ file_known (done, states.Within w (betweens.Goal p bs part)) g t ts h read = goa
 
 -- what was read from the beginning on is known
 pub read_known : (f g : FileRead) (before ts : List Placed) → KnownFile f.0 f.1 before → file_with_all f ts ≡ Some g → KnownFile g.0 g.1 (before ++ ts)
-read_known f g before [] h read = subst (λ (g : FileRead). KnownFile g.0 g.1 (before ++ [])) (some_is f g read) (subst (λ ts. KnownFile f.0 f.1 ts) (sym (append-nil before)) h)
+read_known f g before [] h read = subst (λ (g : FileRead). KnownFile g.0 g.1 (before ++ [])) (same_Some f g read) (subst (λ ts. KnownFile f.0 f.1 ts) (sym (append-nil before)) h)
 read_known f g before (t ∷ ts) h read =
     let k = bind_some (file_with f t) (λ f. file_with_all f ts) g read in
     subst (λ us. KnownFile g.0 g.1 us) (append_assoc before (t ∷ []) ts) (read_known k.0 g (before ++ t ∷ []) ts (file_known f k.0 t before h k.1) k.2)
 
 -- what may end is a file
 pub file_ends : (f : FileRead) (ts : List Placed) (ss : List RawSession) → KnownFile f.0 f.1 ts → file_of f ≡ Some ss → Sessions ss ts
-file_ends (done, states.Start) ts ss h read = subst (λ ss. Sessions ss ts) (some_is done ss read) h
+file_ends (done, states.Start) ts ss h read = subst (λ ss. Sessions ss ts) (same_Some done ss read) h
 file_ends (done, states.Name) ts ss h read = absurd cc
 file_ends (done, states.NameEnd n) ts ss h read = absurd cc
-file_ends (done, states.Within w betweens.Open) ts ss h read = subst (λ ss. Sessions ss ts) (some_is _ ss read) (session_made done w ts h)
-file_ends (done, states.Within w betweens.Ended) ts ss h read = subst (λ ss. Sessions ss ts) (some_is _ ss read) (session_made done w ts (h.0, h.1, h.2, h.3, h.4, h.5, h.6, h.7.0, h.8))
+file_ends (done, states.Within w betweens.Open) ts ss h read = subst (λ ss. Sessions ss ts) (same_Some _ ss read) (session_made done w ts h)
+file_ends (done, states.Within w betweens.Ended) ts ss h read = subst (λ ss. Sessions ss ts) (same_Some _ ss read) (session_made done w ts (h.0, h.1, h.2, h.3, h.4, h.5, h.6, h.7.0, h.8))
 file_ends (done, states.Within w betweens.QedEnd) ts ss h read = absurd cc
 file_ends (done, states.Within w (betweens.Goal p bs part)) ts ss h read = absurd cc

@@ -4,6 +4,9 @@ use Rattle.std.specs.Prelude.{pos, nat_le, ◌&&◌}
 use Rattle.std.specs.Option.{option_map_or}
 use Rattle.std.proofs.lemmas.Bool.{and_parts}
 use Rattle.std.proofs.lemmas.List.{append-nil}
+use Rattle.std.proofs.lemmas.Option.{same_Some}
+use Rattle.mm_num.specs.Option.{◌>>=◌}
+use Rattle.mm_num.proofs.OptionLaws.{bind_some, choice_some, test_some}
 use Rattle.goal_token.specs.declared.token.Sign.{Sign}
 use Rattle.goal_token.specs.declared.token.Sign.TheVariants as signs
 use Rattle.goal_token.specs.declared.token.Function.{Function}
@@ -20,8 +23,8 @@ use Rattle.goal_text.specs.declared.frame.Frame.TheVariants.{Open, Prefix, Infix
 use Rattle.goal_text.specs.declared.precedence.Levels.{Levels}
 use Rattle.goal_text.specs.Levels.{infix_levels, prefix_level, can_chain, arity}
 use Rattle.goal_text.specs.Grammar.{node, sign, function, leaf_of, constant_text, Expr, leaf, grouped, applied, applied_to_two, prefixed, joined, chained}
-use Rattle.goal_text.specs.Operands.{◌>>=◌, Whole, Reading, highest, room, level_of, right_of, prefix_of, closed, chain_with, attached, wanted_if, joins, after_group, ends_group, finished, call, opens_group, sign_opens, opens, closes_group, sign_follows, token_follows, follows, with_token, read_of}
-use Rattle.goal_text.proofs.OptionLaws.{some_is, bind_some, guard_some, choice_some, test_some}
+use Rattle.goal_text.specs.Operands.{Whole, Reading, highest, room, level_of, right_of, prefix_of, closed, chain_with, attached, wanted_if, joins, after_group, ends_group, finished, call, opens_group, sign_opens, opens, closes_group, sign_follows, token_follows, follows, with_token, read_of}
+use Rattle.goal_text.proofs.OptionLaws.{guard_some}
 use Rattle.goal_text.proofs.LevelLaws.{level_low}
 use Rattle.goal_text.proofs.LandingLaws.{chain_is, chain_right}
 
@@ -79,26 +82,26 @@ ends (Prefix s p) n e us vs w h d le is =
     let same : prefix_of s ≡ h.0 = ap (λ o. option_map_or (λ (l : ℕ). l) o 0) h.1 in
     let whole : Expr (prefix_of s) (node (heads.Prefix (sign_number s)) p (e ∷ [])) (us ++ vs) =
     subst (λ us. Expr (prefix_of s) (node (heads.Prefix (sign_number s)) p (e ∷ [])) (us ++ vs)) (sym h.2) (prefixed s p h.0 h.1 (omega arith) (wider h.0 (omega arith) d)) in
-    subst (λ (w : Whole). Expr w.1 w.0 (us ++ vs) × (w.1 ≡ prefix_of s)) (some_is _ w is) (whole, refl)
+    subst (λ (w : Whole). Expr w.1 w.0 (us ++ vs) × (w.1 ≡ prefix_of s)) (same_Some _ w is) (whole, refl)
 ends (Infix s p a) n e us vs w h d le is =
     let same : level_of s ≡ h.0.level = ap (λ o. option_map_or (λ (l : Levels). l.level) o 0) h.1 in
     let right : right_of s ≡ h.0.right = ap (λ o. option_map_or (λ (l : Levels). l.right) o 0) h.1 in
     let e_node : RawExpr = node (heads.Infix (sign_number s)) p (a ∷ e ∷ []) in
     let made : Expr (level_of s) e_node (h.2 ++ sign s p ∷ vs) = joined s p h.0 h.1 (omega arith) h.3 (wider h.0.right (omega arith) d) in
     let tokens : us ++ vs ≡ h.2 ++ sign s p ∷ vs = ap (λ us. us ++ vs) h.4 ∙ append_assoc h.2 (sign s p ∷ []) vs in
-    subst (λ (w : Whole). Expr w.1 w.0 (us ++ vs) × (w.1 ≡ level_of s)) (some_is _ w is) (subst (λ ts. Expr (level_of s) e_node ts) (sym tokens) made, refl)
+    subst (λ (w : Whole). Expr w.1 w.0 (us ++ vs) × (w.1 ≡ level_of s)) (same_Some _ w is) (subst (λ ts. Expr (level_of s) e_node ts) (sym tokens) made, refl)
 ends (Chain s p t a b) n e us vs w h d le is =
     let e_node : RawExpr = node (heads.Chain (sign_number s) (sign_number t)) p (a ∷ b ∷ e ∷ []) in
     let made : Expr 70 e_node (h.2 ++ sign s p ∷ (h.3 ++ sign t h.4 ∷ vs)) = chained s t p h.4 h.0 h.1 (omega arith) h.5 h.6 (wider 69 (omega arith) d) in
     let tokens : us ++ vs ≡ h.2 ++ sign s p ∷ (h.3 ++ sign t h.4 ∷ vs) =
     ap (λ us. us ++ vs) h.7 ∙ append_assoc h.2 (sign s p ∷ (h.3 ++ sign t h.4 ∷ [])) vs ∙ ap (λ ts. h.2 ++ sign s p ∷ ts) (append_assoc h.3 (sign t h.4 ∷ []) vs) in
-    subst (λ (w : Whole). Expr w.1 w.0 (us ++ vs) × (w.1 ≡ 70)) (some_is _ w is) (subst (λ ts. Expr 70 e_node ts) (sym tokens) made, refl)
+    subst (λ (w : Whole). Expr w.1 w.0 (us ++ vs) × (w.1 ≡ 70)) (same_Some _ w is) (subst (λ ts. Expr 70 e_node ts) (sym tokens) made, refl)
 ends (Last f p None) n e us vs w h d le is =
     let made : Expr 10 (node (heads.Apply (function_number f)) p (e ∷ [])) (function f p ∷ vs) = applied f p (omega arith) h.0 (wider 9 (omega arith) d) in
-    subst (λ (w : Whole). Expr w.1 w.0 (us ++ vs) × (w.1 ≡ 10)) (some_is _ w is) (subst (λ us. Expr 10 (node (heads.Apply (function_number f)) p (e ∷ [])) (us ++ vs)) (sym h.1) made, refl)
+    subst (λ (w : Whole). Expr w.1 w.0 (us ++ vs) × (w.1 ≡ 10)) (same_Some _ w is) (subst (λ us. Expr 10 (node (heads.Apply (function_number f)) p (e ∷ [])) (us ++ vs)) (sym h.1) made, refl)
 ends (Last f p (Some a)) n e us vs w h d le is =
     let made : Expr 10 (node (heads.Apply (function_number f)) p (a ∷ e ∷ [])) (function f p ∷ (h.1 ++ vs)) = applied_to_two f p (omega arith) h.0 h.2 (wider 9 (omega arith) d) in
-    subst (λ (w : Whole). Expr w.1 w.0 (us ++ vs) × (w.1 ≡ 10)) (some_is _ w is) (subst (λ us. Expr 10 (node (heads.Apply (function_number f)) p (a ∷ e ∷ [])) (us ++ vs)) (sym h.3) made, refl)
+    subst (λ (w : Whole). Expr w.1 w.0 (us ++ vs) × (w.1 ≡ 10)) (same_Some _ w is) (subst (λ us. Expr 10 (node (heads.Apply (function_number f)) p (a ∷ e ∷ [])) (us ++ vs)) (sym h.3) made, refl)
 
 -- the innermost construct ends, and stands as an operand in the next one out
 pub ends_in : (f : Frame) (fs : List Frame) (w v : Whole) (ts : List Placed) → HasRead (f ∷ fs, Some w) ts → closed f w.0 ≡ Some v → HasRead (fs, Some v) ts
@@ -135,7 +138,7 @@ makes_chain (Infix t q a) fs s p w ts g h is =
     let c = and_parts (can_chain t) (can_chain s) k.0 in
     let st = h.3 in
     let inner = st.4 in
-    let level : inner.0 ≡ record { level = 70; left = 69; right = 69 } = some_is _ _ (sym inner.1 ∙ chain_is t c.0) in
+    let level : inner.0 ≡ record { level = 70; left = 69; right = 69 } = same_Some _ _ (sym inner.1 ∙ chain_is t c.0) in
     let left : inner.0.left ≡ 69 = ap (λ (l : Levels). l.left) level in
     let right : right_of t ≡ 69 = chain_right t c.0 in
     let own : level_of t ≡ 70 = ap (λ o. option_map_or (λ (l : Levels). l.level) o 0) (chain_is t c.0) in
@@ -153,7 +156,7 @@ pub joins_stands : (fs : List Frame) (s : Sign) (p : ℕ) (l : Levels) (w : Whol
 joins_stands [] s p l w ts r is h read = attaches s p l [] w ts r is (level_low s l is) h read
 joins_stands (f ∷ fs) s p l w ts r is h read =
     elim (choice_some (chain_with f s w.0) (λ g. Some (g ∷ fs, None)) (cond (nat_le l.level (highest f)) (attached s p l.left (f ∷ fs) w) (closed f w.0 >>= λ v. joins s p l fs v)) r read) [
-      | inl k ↦ subst (λ (r : Reading). HasRead r (ts ++ sign s p ∷ [])) (some_is _ r k.2) (makes_chain f fs s p w ts k.0 h k.1)
+      | inl k ↦ subst (λ (r : Reading). HasRead r (ts ++ sign s p ∷ [])) (same_Some _ r k.2) (makes_chain f fs s p w ts k.0 h k.1)
       | inr k ↦ elim (test_some (nat_le l.level (highest f)) (attached s p l.left (f ∷ fs) w) (closed f w.0 >>= λ v. joins s p l fs v) r k.1) [
         | inl j ↦ attaches s p l (f ∷ fs) w ts r is (let b = j.0 in grind arith) h j.1
         | inr j ↦ let v = bind_some (closed f w.0) (λ v. joins s p l fs v) r j.1 in joins_stands fs s p l v.0 ts r is (ends_in f fs w v.0 ts h v.1) v.2
@@ -174,7 +177,7 @@ group_ends Open fs p w ts r h read =
     ap (λ ts. ts ++ sign signs.Close p ∷ []) (h.2 ∙ ap (λ us. us ++ h.1) (st.2 ∙ ap (λ vs. st.0 ++ vs) st.4.1))
     ∙ append_assoc (st.0 ++ sign signs.Open st.4.0 ∷ []) h.1 (sign signs.Close p ∷ [])
     ∙ append_assoc st.0 (sign signs.Open st.4.0 ∷ []) (h.1 ++ sign signs.Close p ∷ []) in
-    subst (λ (r : Reading). HasRead r (ts ++ sign signs.Close p ∷ [])) (some_is _ r read)
+    subst (λ (r : Reading). HasRead r (ts ++ sign signs.Close p ∷ [])) (same_Some _ r read)
     (st.0, sign signs.Open st.4.0 ∷ (h.1 ++ sign signs.Close p ∷ []), tokens, st.3, grouped st.4.0 p (wider 100 (omega arith) h.4), omega arith)
 
 ends_group_stands : (fs : List Frame) (p : ℕ) (w : Whole) (ts : List Placed) (r : Reading) → HasRead (fs, Some w) ts → ends_group fs w.0 ≡ Some r → HasRead r (ts ++ sign signs.Close p ∷ [])
@@ -189,13 +192,13 @@ pub finished_stands : (fs : List Frame) (w : Whole) (ts : List Placed) (e : RawE
 finished_stands [] w ts e h read =
     let le = h.5 in
     let tokens : ts ≡ h.1 = h.2 ∙ ap (λ us. us ++ h.1) h.3 in
-    subst (λ e. Expr 100 e ts) (some_is w.0 e read) (subst (λ ts. Expr 100 w.0 ts) (sym tokens) (wider 100 (omega arith) h.4))
+    subst (λ e. Expr 100 e ts) (same_Some w.0 e read) (subst (λ ts. Expr 100 w.0 ts) (sym tokens) (wider 100 (omega arith) h.4))
 finished_stands (f ∷ fs) w ts e h read = let v = bind_some (closed f w.0) (λ w. finished fs w.0) e read in finished_stands fs v.0 ts e (ends_in f fs w v.0 ts h v.1) v.2
 
 -- ---- a token where an operand is to come
 
 leaf_stands : (fs : List Frame) (ts : List Placed) (h : Head) (t : Placed) (r : Reading) → StandAll fs ts → leaf_of t.token ≡ Some h → Some (fs, Some (node h t.at [], 0)) ≡ Some r → HasRead r (ts ++ t ∷ [])
-leaf_stands fs ts h t r st is read = subst (λ (r : Reading). HasRead r (ts ++ t ∷ [])) (some_is _ r read) (ts, t ∷ [], refl, st, leaf h t is, omega arith)
+leaf_stands fs ts h t r st is read = subst (λ (r : Reading). HasRead r (ts ++ t ∷ [])) (same_Some _ r read) (ts, t ∷ [], refl, st, leaf h t is, omega arith)
 
 call_stands : (fs : List Frame) (ts : List Placed) (f : Function) (p : ℕ) → StandAll fs ts → 10 ≤ room fs → StandAll (call f p ∷ fs) (ts ++ function f p ∷ [])
 call_stands fs ts (functions.One f) p st low = (ts, function (functions.One f) p ∷ [], refl, st, (refl, refl), low)
@@ -204,7 +207,7 @@ call_stands fs ts (functions.Two f) p st low = (ts, function (functions.Two f) p
 call_stands fs ts (functions.Bool f) p st low = (ts, function (functions.Bool f) p ∷ [], refl, st, (refl, refl), low)
 
 group_opens : (fs : List Frame) (ts : List Placed) (s : Sign) (p : ℕ) (r : Reading) → StandAll fs ts → opens_group s fs ≡ Some r → HasRead r (ts ++ sign s p ∷ [])
-group_opens fs ts signs.Open p r st read = subst (λ (r : Reading). HasRead r (ts ++ sign signs.Open p ∷ [])) (some_is _ r read) (ts, sign signs.Open p ∷ [], refl, st, (p, refl), omega arith)
+group_opens fs ts signs.Open p r st read = subst (λ (r : Reading). HasRead r (ts ++ sign signs.Open p ∷ [])) (same_Some _ r read) (ts, sign signs.Open p ∷ [], refl, st, (p, refl), omega arith)
 group_opens fs ts signs.Iff p r st read = absurd cc
 group_opens fs ts signs.LeTest p r st read = absurd cc
 group_opens fs ts signs.GeTest p r st read = absurd cc

@@ -1,6 +1,8 @@
 -- A file with one goal whose body has at most 2,048 tokens and that binds at most 256 names is within the limits.
 use Rattle.std.proofs.Common.{◌≡◌, ◌≢◌, ℕ, ◌+◌, ◌≤◌, List, [], ◌∷◌, ◌++◌, length, map, ◌⊎◌, inl, inr, Some, None, refl, sym, ap, subst, ◌∙◌, length-append, append_assoc, arith}
 use Rattle.std.proofs.lemmas.List.{length-map}
+use Rattle.std.proofs.lemmas.Option.{same_Some}
+use Rattle.mm_num.proofs.OptionLaws.{bind_some}
 use Rattle.goal_ast.specs.declared.goal.Mode.{Mode}
 use Rattle.goal_ast.specs.declared.goal.Mode.TheVariants.{Lia, Nia}
 use Rattle.goal_ast.specs.declared.goal.Name.{Name}
@@ -23,7 +25,6 @@ use Rattle.goal_text.specs.declared.state.Part.TheVariants as parts
 use Rattle.goal_text.specs.Operands.{Reading, with_tokens}
 use Rattle.goal_text.specs.Counts.{body_count}
 use Rattle.goal_text.specs.Refusals.{HasNo, names_in, count_one, count, BodySoFar, BoundSoFar, IsLong, IsMany, IsWithin}
-use Rattle.goal_text.proofs.OptionLaws.{some_is, bind_some}
 use Rattle.goal_text.proofs.CleanLaws.{has_no_append, names_append, names_count, groups_count, body_has_no_dot}
 use Rattle.goal_text.proofs.CountLaws.{body_counted}
 use Rattle.goal_text.proofs.FileLaws.{all_append, after_all, in_the_goal, prefixes_read, head_reads, sessions_read}
@@ -284,7 +285,7 @@ body_is w p bs e us vs f prefixes d read =
     let all : file_with_all (in_the_goal [] w p bs parts.Head) vs ≡ Some (in_the_goal [] w p bs (parts.Body s (1 + length has.1))) = ap (file_with_all (in_the_goal [] w p bs parts.Head)) has.2 ∙ head_reads [] w p bs s has.0 has.1 on in
     let there : file_with_all (in_the_goal [] w p [] parts.Head) (us ++ vs) ≡ Some (in_the_goal [] w p bs (parts.Body s (1 + length has.1))) = after_all (in_the_goal [] w p [] parts.Head) (in_the_goal [] w p bs parts.Head) us vs (prefixes_read [] w p prefixes) ∙ all in
     let size : 1 + length has.1 ≡ length vs = omega (arith, ap length has.2) in
-    let same : f ≡ in_the_goal [] w p bs (parts.Body s (1 + length has.1)) = some_is f (in_the_goal [] w p bs (parts.Body s (1 + length has.1))) (sym read ∙ there) in
+    let same : f ≡ in_the_goal [] w p bs (parts.Body s (1 + length has.1)) = same_Some f (in_the_goal [] w p bs (parts.Body s (1 + length has.1))) (sym read ∙ there) in
     ap body_count same ∙ ap Some size
 
 -- ---- the limits
@@ -304,7 +305,7 @@ abbrev up_to : ℕ → Named → ℕ → ℕ → List Placed → List Placed
 up_to p n q r ts = word keywords.Session p ∷ name n ∷ sign signs.Dot q ∷ word keywords.Goal r ∷ ts
 
 counted : (f : FileRead) (n k m : ℕ) → body_count f ≡ Some k → body_count f ≡ Some m → n + 1 ≤ k → m ≤ n → ⊥
-counted f n k m a b more few = let e : k ≡ m = some_is k m (sym a ∙ b) in absurd (omega arith)
+counted f n k m a b more few = let e : k ≡ m = same_Some k m (sym a ∙ b) in absurd (omega arith)
 
 -- a body that goes on after so many tokens has more
 body_long : (ts : List Placed) (bs : List RawBound) (e : RawExpr) (g : HasOneGoal ts bs e) (ss : List RawSession) → Sessions ss ts → (n : ℕ) → length g.body ≤ n → (before after : List Placed) (t : Placed) (b : BodySoFar before n) → IsBefore (b.head ++ b.first ∷ b.others) after (g.head ++ g.body) (ending g.dot g.mode g.command g.end) t → ⊥

@@ -1,11 +1,12 @@
 -- What the innermost of the open constructs says about the next token.
 use Rattle.std.specs.Prelude.{ℕ, List, [], ◌∷◌, Bool, true, false, not, nat_lt, ◌&&◌, Option, Some, None}
+use Rattle.mm_num.specs.Option.{◌>>=◌}
 use Rattle.goal_token.specs.declared.token.Sign.{Sign}
 use Rattle.goal_sort.specs.declared.raw.RawExpr.{RawExpr}
 use Rattle.goal_text.specs.declared.frame.Frame.{Frame}
 use Rattle.goal_text.specs.declared.frame.Frame.TheVariants.{Open, Prefix, Infix, Chain, First, Last}
 use Rattle.goal_text.specs.Levels.{can_chain}
-use Rattle.goal_text.specs.Operands.{◌>>=◌, highest, Whole, closed, chain_with, Reading, attached}
+use Rattle.goal_text.specs.Operands.{highest, Whole, closed, chain_with, Reading, attached}
 
 -- whether a sign makes a chain of the construct
 abbrev pub is_chained : Frame → Sign → Bool

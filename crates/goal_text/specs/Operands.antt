@@ -2,6 +2,7 @@
 -- one that is whole.
 use Rattle.std.specs.Prelude.{ℕ, List, [], ◌∷◌, Bool, nat_le, ◌&&◌, ◌==◌, Option, Some, None, if◌then◌else◌}
 use Rattle.std.specs.Option.{option_map_or}
+use Rattle.mm_num.specs.Option.{◌>>=◌}
 use Rattle.goal_token.specs.declared.token.Sign.{Sign}
 use Rattle.goal_token.specs.declared.token.Sign.TheVariants as signs
 use Rattle.goal_token.specs.declared.token.Function.{Function}
@@ -16,11 +17,6 @@ use Rattle.goal_text.specs.declared.frame.Frame.TheVariants.{Open, Prefix, Infix
 use Rattle.goal_text.specs.declared.precedence.Levels.{Levels}
 use Rattle.goal_text.specs.Levels.{infix_levels, prefix_level, can_chain, arity}
 use Rattle.goal_text.specs.Grammar.{node, constant_text}
-
-infixl 10 ◌>>=◌
-abbrev pub ◌>>=◌ : {A B : Type 0} → Option A → (A → Option B) → Option B
-(Some x) >>= f = f x
-None >>= f = None
 
 -- the highest level that an operand may have right after a sign
 abbrev pub right_of : Sign → ℕ

@@ -1,5 +1,6 @@
 -- Reading a file token by token.
 use Rattle.std.specs.Prelude.{ℕ, ◌+◌, List, [], ◌∷◌, ◌++◌, Bool, true, false, Option, Some, None, if◌then◌else◌}
+use Rattle.mm_num.specs.Option.{◌>>=◌}
 use Rattle.goal_ast.specs.declared.goal.Mode.{Mode}
 use Rattle.goal_ast.specs.declared.goal.Mode.TheVariants.{Lia, Nia}
 use Rattle.goal_ast.specs.declared.goal.Name.{Name}
@@ -21,7 +22,7 @@ use Rattle.goal_text.specs.declared.state.Between.{Between}
 use Rattle.goal_text.specs.declared.state.Between.TheVariants as betweens
 use Rattle.goal_text.specs.declared.state.Part.{Part}
 use Rattle.goal_text.specs.declared.state.Part.TheVariants as parts
-use Rattle.goal_text.specs.Operands.{◌>>=◌, Reading, with_token, read_of}
+use Rattle.goal_text.specs.Operands.{Reading, with_token, read_of}
 use Rattle.goal_text.specs.Files.{bounds}
 
 -- ---- what a token is outside an expression

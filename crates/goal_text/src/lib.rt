@@ -28,6 +28,3 @@ pub use fail::TextFail;
 pub use file::{one_reading, read_file};
 pub use goal_sort::{SortFail, one_sorting, sorts};
 pub use raw::{Head, RawBound, RawExpr, RawGoal, RawSession};
-
-#[cfg(test)]
-mod tests;

@@ -1,6 +1,7 @@
 -- The tokens of bytes, step by step: a blank, a comment, a token.
 use Rattle.std.proofs.Common.{◌≡◌, ℕ, zero, suc, ◌+◌, ◌-◌, ◌<◌, ◌≤◌, Bool, true, false, cond, List, [], ◌∷◌, length, take, drop, Option, Some, None, refl, sym, ap, subst, ◌∙◌, arith, add-zero}
 use Rattle.std.specs.Option.{option_map_or}
+use Rattle.std.proofs.lemmas.Option.{same_Some}
 use Rattle.goal_token.specs.declared.token.Token.{Token}
 use Rattle.goal_token.specs.declared.token.Token.TheVariants as token
 use Rattle.goal_token.specs.declared.token.Placed.{Placed}
@@ -30,16 +31,13 @@ longer c bytes rest is =
     let e : length (c ∷ bytes) - length rest ≡ suc (length bytes - length rest) = let s = is.shorter in omega arith in
     record { shorter = let s = is.shorter in omega arith; end = rw e is.end }
 
-some_is : {A : Type 0} (x y : A) → Some x ≡ Some y → x ≡ y
-some_is x y e = cc
-
 by_case : (a b : Bool) (x y z o : Option (List ℕ)) {P : Type 0} → cond a x (cond b y z) ≡ o → (x ≡ o → P) → (y ≡ o → P) → (z ≡ o → P) → P
 by_case true b x y z o e p q r = p e
 by_case false true x y z o e p q r = q e
 by_case false false x y z o e p q r = r e
 
 pub comment_rest : (depth : ℕ) (bytes rest : List ℕ) → after_comment depth bytes ≡ Some rest → IsRest bytes rest
-comment_rest zero bytes rest e = subst (IsRest bytes) (some_is bytes rest e) (whole bytes)
+comment_rest zero bytes rest e = subst (IsRest bytes) (same_Some bytes rest e) (whole bytes)
 comment_rest (suc depth) [] rest e = absurd cc
 comment_rest (suc depth) (c ∷ []) rest e = absurd cc
 comment_rest (suc depth) (c ∷ d ∷ bytes) rest e =

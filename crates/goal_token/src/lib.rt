@@ -17,6 +17,3 @@ mod word;
 pub use law::{literals_are_small, places_rise, tokens_unfold};
 pub use lexer::Lexer;
 pub use token::{Constant, Function, Keyword, Placed, Sign, Token};
-
-#[cfg(test)]
-mod tests;
