@@ -1,0 +1,17 @@
+pub mod ValueLaws
+pub mod ListLaws
+pub mod ConditionLaws
+pub mod TableLaws
+pub mod AgreementLaws
+pub mod RangeLaws
+pub mod ReadyLaws
+pub mod TranslationLaws
+pub mod MeasureLaws
+pub mod LimitLaws
+pub mod ShapeLaws
+pub mod NumberLaws
+pub mod WalkLaws
+pub mod StepLaws
+pub mod FormLaws
+pub mod WholeLaws
+pub mod SendLaws

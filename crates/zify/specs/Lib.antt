@@ -1,0 +1,5 @@
+pub mod Truth
+pub mod Measure
+pub mod Operations
+pub mod Translation
+pub mod machine
