@@ -1,0 +1,13 @@
+pub mod BoolLaws
+pub mod PolynomialLaws
+pub mod AlternativeLaws
+pub mod NamingLaws
+pub mod ClauseLaws
+pub mod BoundLaws
+pub mod TallyLaws
+pub mod FittingLaws
+pub mod AnswerLaws
+pub mod RowLaws
+pub mod PlanLaws
+pub mod WalkLaws
+pub mod PlaceLaws

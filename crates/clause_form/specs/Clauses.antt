@@ -1,0 +1,36 @@
+-- The clauses of a goal, and its points as theirs.
+use Rattle.std.specs.Prelude.{◌≡◌, ℕ, List, map, false, slice_index_or}
+use Rattle.std.specs.List.{AllByRecursion}
+use Rattle.cert_kit.specs.declared.row.PRow.{PRow}
+use Rattle.cert_kit.specs.Row.{Solves, HasNoSolution}
+use Rattle.zify.specs.declared.goal.ZGoal.{ZGoal}
+use Rattle.zify.specs.Truth.{HoldsTranslated, z_truth_of}
+use Rattle.goal_ast.specs.Truth.{Point}
+use Rattle.clause_form.specs.declared.named.Named.{Named}
+use Rattle.clause_form.specs.Alternatives.{alternatives_of}
+use Rattle.clause_form.specs.Naming.{variables_of, named_rows}
+
+-- the clause of an alternative
+abbrev pub named : List PRow → Named
+named rows = record { clause = record { rows = named_rows (variables_of rows) rows }; vars = variables_of rows }
+
+-- one for each alternative, in order; equal ones stay
+abbrev pub clauses_of : ZGoal → List Named
+clauses_of z = map named (alternatives_of z)
+
+-- a point of the goal seen by a clause's variables: each has the value of what it is in the goal
+abbrev pub seen_by : List ℕ → Point → Point
+seen_by vars x i = x (slice_index_or vars i 0)
+
+-- the point, renumbered, solves the clause
+abbrev pub SolvedBy : Point → Named → Type 0
+SolvedBy x n = Solves (seen_by n.vars x) n.clause.rows
+
+-- the point satisfies the hypotheses and not the body
+pub record Refutes (x : Point) (z : ZGoal) : Type 0 where
+  pub hypotheses : AllByRecursion (HoldsTranslated x) z.hyps
+  pub body : z_truth_of x z.body ≡ false
+
+-- no clause has an integer solution
+abbrev pub AllUnsolvable : List Named → Type 0
+AllUnsolvable clauses = AllByRecursion (λ (n : Named). HasNoSolution n.clause.rows) clauses

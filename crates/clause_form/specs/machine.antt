@@ -1,0 +1,4 @@
+pub mod Tally
+pub mod Fitting
+pub mod Plan
+pub mod Walk

@@ -1,0 +1,50 @@
+ghost use Rattle.std.specs.Prelude.{◌≡◌, ◌<◌, ◌/◌, length, slice_index, EachIndex};
+ghost use Rattle.sha2.specs.Sha256.{sha256};
+ghost use Rattle.clause_form.specs.Key.{hex_digit, hex_digit_at};
+
+use sha2::{Digest, Sha256};
+
+/// The name of a key: the first 16 hexadecimal digits of its SHA-256 (FIPS 180-4), in lower case.
+pub fn key_name(key: &[u8]) -> [u8; 16]
+    ensures { EachIndex result (λ k. slice_index result k ≡ hex_digit_at (sha256 key.now) k) }
+{
+    let digest = digest_of(key);
+    first_digits(&digest)
+}
+
+fn digest_of(key: &[u8]) -> [u8; 32]
+    ensures { result ≡ sha256 key.now }
+{
+    let mut hasher = Sha256::new();
+    hasher.update(key);
+    hasher.finalize()
+}
+
+fn first_digits(bytes: &[u8; 32]) -> [u8; 16]
+    ensures { EachIndex result (λ k. slice_index result k ≡ hex_digit_at bytes.now k) }
+{
+    let mut name = [0; 16];
+    for place in 0..16 {
+        name[place] = digit_at(bytes, place);
+    }
+    name
+}
+
+fn digit_at(bytes: &[u8; 32], place: usize) -> u8
+    requires { place < 16 }
+    ensures { result ≡ hex_digit_at bytes.now place }
+{
+    let byte = bytes[place / 2];
+    if place % 2 == 0 {
+        hex_digit(byte / 16)
+    } else {
+        hex_digit(byte % 16)
+    }
+}
+
+fn hex_digit(n: u8) -> u8
+    requires { n < 16 }
+    ensures { result ≡ hex_digit n }
+{
+    if n < 10 { b'0' + n } else { b'a' - 10 + n }
+}

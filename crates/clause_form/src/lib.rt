@@ -1,0 +1,21 @@
+//! Clauses of a goal over the integers.
+//!
+//! The hypotheses and the negation of the body, written as alternatives, are lists of rows: polynomials that are at
+//! least 0, or 0. Each alternative, with its variables renumbered and its rows sorted, is a clause. A point satisfies
+//! the hypotheses and not the body exactly where it solves one of the clauses, so the goal is valid exactly where no
+//! clause has an integer solution.
+#![tactic(auto)]
+
+mod key;
+mod law;
+mod named;
+mod plan;
+mod poly;
+mod row;
+mod tally;
+mod walk;
+
+pub use key::key_name;
+pub use law::{bounds, refutation};
+pub use named::Named;
+pub use tally::{Tally, count, count_clauses};
