@@ -1,25 +1,16 @@
 //! The program `mm`: it reads rows and one certificate from its input, and writes what the rules say of them.
 //!
-//! `run` is the whole program over any source, sink, disks and gate; `main` hands it the real ones.
+//! `main` hands the real devices and the words of the command line to `mm_run::run`.
 #![tactic(auto)]
 
-mod ending;
 mod stream;
-mod top;
 
-use mm_io::{Gate, MemDisk};
+use mm_io::MemDisk;
+use mm_run::{Caches, OUT_OF_MEMORY, OpenGate, run};
 use std::process::ExitCode;
 use std::rt::Env;
 use std::{env, io};
 use stream::{StdinSource, StdoutSink};
-use top::{Caches, OUT_OF_MEMORY, run};
-
-/// The program's gate, which holds nobody.
-struct OpenGate;
-
-impl Gate for OpenGate {
-    fn pass(&self, _session: u32, _goal: u32) {}
-}
 
 // The words after the program's name.
 fn words_of(rt: &(impl Env + AllocGlobal)) -> io::Result<Vec<String>> {

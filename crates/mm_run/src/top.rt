@@ -2,7 +2,7 @@ ghost use Rattle.std.specs.Prelude.{◌≡◌, ◌+◌, ◌^◌, ◌<◌, ◌≤
 ghost use Rattle.std.specs.Io.KnownBytes.{Appends, IsAtEnd};
 ghost use Rattle.mm_io.specs.Cause.{HasRisen};
 ghost use Rattle.mm_io.specs.Writing.{AppendsPrefix};
-ghost use Rattle.mm.specs.Ending.{IsCheckWord, CallsFor, TextCallsFor, Ends, WritesPrefix, IsWhole, IsUnsolvable, IsRefused, IsEndingStatus, line_of, status_of};
+ghost use Rattle.mm_run.specs.Ending.{IsCheckWord, CallsFor, TextCallsFor, Ends, WritesPrefix, IsWhole, IsUnsolvable, IsRefused, IsEndingStatus, line_of, status_of};
 
 use crate::ending::{Ending, line, status};
 use cert_check::check;

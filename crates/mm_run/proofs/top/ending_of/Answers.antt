@@ -1,7 +1,7 @@
 use Rattle.std.proofs.Common.{◌≡◌, List, ℕ, IfOk, map, string_bytes, subst, rules}
-use Rattle.mm.specs.Ending.{IsCheckWord, TextCallsFor}
-use Rattle.mm.proofs.EndingLaws.{read_due}
-use Rattle.mm.proofs.top.ending_of.Goals as goal
+use Rattle.mm_run.specs.Ending.{IsCheckWord, TextCallsFor}
+use Rattle.mm_run.proofs.EndingLaws.{read_due}
+use Rattle.mm_run.proofs.top.ending_of.Goals as goal
 
 pub returns-in-Ok-clause-due : goal.returns-in-Ok-clause-due
 returns-in-Ok-clause-due g c =

@@ -7,10 +7,10 @@ use Rattle.cert_kit.specs.declared.cert.Cert.{Cert}
 use Rattle.cert_kit.proofs.FaultLaws.{no_fault_good}
 use Rattle.cert_kit.proofs.SoundLaws.{accepted_sound}
 use Rattle.cert_check.specs.declared.checking.Verdict.TheVariants.{Accepted, Rejected, Size}
-use Rattle.mm.specs.declared.ending.Ending.{Ending}
-use Rattle.mm.specs.declared.ending.Ending.TheVariants.{Usage, TooLong, Bad, Checked}
-use Rattle.mm.specs.declared.top.RunFail.{RunFail}
-use Rattle.mm.specs.Ending.{IsCheckWord, TextCallsFor, CallsFor, status_of, IsUnsolvable, HasVerdict}
+use Rattle.mm_run.specs.declared.ending.Ending.{Ending}
+use Rattle.mm_run.specs.declared.ending.Ending.TheVariants.{Usage, TooLong, Bad, Checked}
+use Rattle.mm_run.specs.declared.top.RunFail.{RunFail}
+use Rattle.mm_run.specs.Ending.{IsCheckWord, TextCallsFor, CallsFor, status_of, IsUnsolvable, HasVerdict}
 use Rattle.cert_check.proofs.VerdictLaws.{accepted_is}
 
 unknown_due : (words : List (List ℕ)) (bytes : List ℕ) (e : Ending) → IsCheckWord words → TextCallsFor bytes e → CallsFor words None e

@@ -1,5 +1,5 @@
 ghost use Rattle.std.specs.Prelude.{◌≡◌, ◌++◌, IfOk, OnOk, codes, decimal};
-ghost use Rattle.mm.specs.Ending.{line_of, status_of, verdict_status};
+ghost use Rattle.mm_run.specs.Ending.{line_of, status_of, verdict_status};
 
 use cert_check::Verdict;
 use std::alloc::{AllocError, Global};

@@ -12,8 +12,8 @@ use Rattle.cert_check.specs.Verdict.{verdict_of}
 use Rattle.cert_text.specs.Text.{check_text}
 use Rattle.cert_text.specs.Check.{IsCheck}
 use Rattle.cert_text.specs.Place.{IsNoCheck, IsBadAt}
-use Rattle.mm.specs.declared.ending.Ending.{Ending}
-use Rattle.mm.specs.declared.ending.Ending.TheVariants.{Usage, TooLong, Bad, Checked}
+use Rattle.mm_run.specs.declared.ending.Ending.{Ending}
+use Rattle.mm_run.specs.declared.ending.Ending.TheVariants.{Usage, TooLong, Bad, Checked}
 
 -- the words are the one word `check`
 abbrev pub IsCheckWord : List (List ℕ) → Type 0

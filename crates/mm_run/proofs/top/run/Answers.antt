@@ -1,9 +1,9 @@
 use Rattle.std.proofs.Common.{◌≡◌, sym, ◌∙◌, arith, map, string_bytes, inl, inr, ◌⊎◌, ℕ}
-use Rattle.mm.specs.declared.ending.Ending.{Ending}
-use Rattle.mm.specs.Ending.{IsEndingStatus, status_of}
-use Rattle.mm.proofs.EndingLaws.{ending_sound}
-use Rattle.mm.proofs.top.run.Goals as goal
-use Rattle.mm.proofs.top.run.Goals.{in-Ok, in-Err-NoMemory, in-Err-Device}
+use Rattle.mm_run.specs.declared.ending.Ending.{Ending}
+use Rattle.mm_run.specs.Ending.{IsEndingStatus, status_of}
+use Rattle.mm_run.proofs.EndingLaws.{ending_sound}
+use Rattle.mm_run.proofs.top.run.Goals as goal
+use Rattle.mm_run.proofs.top.run.Goals.{in-Ok, in-Err-NoMemory, in-Err-Device}
 
 -- a line that was written whole has its own status
 own_status : (e : Ending) (s : ℕ) → IsEndingStatus e s → s ≡ 0 → status_of e ≡ 0

@@ -2,8 +2,8 @@ use Rattle.std.proofs.Common.{◌≡◌, sym, ◌∙◌, ap, List, ℕ, [], ◌�
 use Rattle.std.specs.Bool.{Decides}
 use Rattle.std.proofs.lemmas.Bool.Decides.{Decides-eqb}
 use Rattle.std.proofs.lemmas.Slice.Eq.{slice_eq-Decides}
-use Rattle.mm.proofs.EndingLaws.{lone}
-use Rattle.mm.proofs.top.asks_for_check.Goals as goal
+use Rattle.mm_run.proofs.EndingLaws.{lone}
+use Rattle.mm_run.proofs.top.asks_for_check.Goals as goal
 
 head_is : (x y : List ℕ) → x ∷ [] ≡ y ∷ [] → x ≡ y
 head_is x y h = cc
