@@ -1,13 +1,14 @@
 #!/usr/bin/env python3
-"""Times of `mm check` on generated inputs. Usage: bench/check.py MM [REPEATS]
+"""Times of `mm check` on generated inputs. Usage: bench/check.py MM [MM ..] [REPEATS]
 
-MM is the proved program, crates/mm/out/mm after `rt run` in crates/mm. Each line tells the least time of the runs,
-the time of the same rows without the work that is measured, and the peak memory, which is never less than this
-script's own.
+MM is the proved program, crates/mm/out/mm after `rt run` in crates/mm. Several programs are run by turns. Each line
+tells the least time of the runs, the time of the same rows without the work that is measured, the peak memory, which is
+never less than this script's own, and how many times the text that is, where the text is long; for each program after the first also the ratio of
+the medians to those of the first.
 """
 import os
 import random
-import resource
+import statistics
 import subprocess
 import sys
 import tempfile
@@ -60,46 +61,71 @@ def run(mm, text):
         os.unlink(file.name)
 
 
-def measure(mm, repeats, name, text, base, unit, count):
-    runs = [run(mm, text) for _ in range(repeats)]
-    bases = [run(mm, base) for _ in range(repeats)]
-    spent = min(r[0] for r in runs)
-    before = min(r[0] for r in bases)
-    each = (spent - before) / count * 1e9
-    print(f"{name}: {spent:.3f} s, without the work {before:.3f} s, {each:.0f} ns {unit}, {runs[0][1]:.0f} MiB, {runs[0][2]}")
+def measure(programs, repeats, name, text, base, unit, count):
+    runs, bases = ([], [])
+    for _ in range(repeats):
+        runs.append([run(mm, text) for mm in programs])
+        bases.append([run(mm, base) for mm in programs])
+    first = None
+    for place, mm in enumerate(programs):
+        times = [turn[place][0] for turn in runs]
+        spent, before = min(times), min(turn[place][0] for turn in bases)
+        median = statistics.median(times)
+        first = first or median
+        peak = min(turn[place][1] for turn in runs)
+        share = f" ({peak * 2**20 / len(text):.1f} times the text)" if len(text) >> 20 else ""
+        print(
+            f"{name}, {os.path.basename(mm)}: {spent:.3f} s, without the work {before:.3f} s, "
+            f"{(spent - before) / count * 1e9:.0f} ns {unit}, {peak:.0f} MiB{share}, "
+            f"{median / first:.2f} of the first, {runs[0][place][2]}",
+            flush=True,
+        )
+
+
+def of_size(line, size):
+    """A text of a size whose certificate looks at none of its rows, and how many bytes the rows have."""
+    count = (size << 20) // len(line)
+    return line * count + "cert done\n", count * len(line)
 
 
 def main():
-    mm = sys.argv[1]
-    repeats = int(sys.argv[2]) if len(sys.argv) > 2 else 3
+    words = sys.argv[1:]
+    repeats = int(words.pop()) if words[-1].isdigit() else 3
+    programs = words
 
     # Products of n by n terms: a polynomial times an equality, 20 times over.
-    for n in (100, 250):
-        row = f"row {polynomial(n)} = 0\n"
-        step = f"rat mulp({polynomial(n)}, in 0); "
+    for n, degree in ((100, 3), (250, 3), (100, 1)):
+        variables = 200 if degree == 1 else 40
+        row = f"row {polynomial(n, degree, variables)} = 0\n"
+        step = f"rat mulp({polynomial(n, degree, variables)}, in 0); "
         text = row + "cert " + step * 20 + "done\n"
         # The same text is read, but the expression has a fault before anything is multiplied.
         base = row + "cert rat in 9; " + step * 20 + "done\n"
-        measure(mm, repeats, f"20 products of {n} by {n} terms", text, base, "a product of terms", 20 * n * n)
+        measure(programs, repeats, f"20 products of {n} by {n} terms of degree {degree}", text, base, "a product of terms", 20 * n * n)
 
     # 200 products of 30 by 30 terms.
     row = f"row {polynomial(30)} = 0\n"
     step = f"rat mulp({polynomial(30)}, in 0); "
     text = row + "cert " + step * 200 + "done\n"
     base = row + "cert rat in 9; " + step * 200 + "done\n"
-    measure(mm, repeats, "200 products of 30 by 30 terms", text, base, "a product of terms", 200 * 900)
+    measure(programs, repeats, "200 products of 30 by 30 terms", text, base, "a product of terms", 200 * 900)
 
     # 2,000 steps, each the sum of two of 100 rows of 20 terms.
     rows = "".join(f"row {polynomial(20)} >= 0\n" for _ in range(100))
     steps = "".join(f"rat add(in {random.randrange(100)}, in {random.randrange(100)}); " for _ in range(2000))
     base = rows + "cert rat in 2000; " + steps + "done\n"
-    measure(mm, repeats, "2,000 sums over 100 rows of 20 terms", rows + "cert " + steps + "done\n", base, "a step", 2000)
+    measure(programs, repeats, "2,000 sums over 100 rows of 20 terms", rows + "cert " + steps + "done\n", base, "a step", 2000)
 
     # Rows of 16 and 64 MiB, and a certificate that looks at none.
     line = "".join(f"row {polynomial(20)} >= 0\n" for _ in range(200))
-    for size in (16, 64):
-        count = (size << 20) // len(line)
-        measure(mm, repeats, f"{size} MiB of rows", line * count + "cert done\n", "cert done\n", "a byte", count * len(line))
+    for name, rows, size in (
+        ("of 20 terms of degree 3", line, 16),
+        ("of 20 terms of degree 3", line, 64),
+        ("of 20 terms of degree 1", "".join(f"row {polynomial(20, 1)} >= 0\n" for _ in range(200)), 16),
+        ("`row x0 >= 0`", "row x0 >= 0\n", 16),
+    ):
+        text, count = of_size(rows, size)
+        measure(programs, repeats, f"{size} MiB of rows {name}", text, "cert done\n", "a byte", count)
 
 
 main()
