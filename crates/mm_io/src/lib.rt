@@ -16,6 +16,3 @@ pub use failed::Failed;
 pub use gate::Gate;
 pub use sink::{MemSink, Sink, write_all};
 pub use source::{MemSource, ReadFail, Source, read_all};
-
-#[cfg(test)]
-mod tests;

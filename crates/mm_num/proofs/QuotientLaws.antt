@@ -76,3 +76,8 @@ floor_unique a z d h low high =
     let p : z <ℤ (f +ℤ pos 1) = less_factor d z (f +ℤ pos 1) h (let n = next f in omega (arith, ints)) in
     let q : f <ℤ (z +ℤ pos 1) = less_factor d f (z +ℤ pos 1) h (let n = next z in omega (arith, ints)) in
     omega (arith, ints)
+
+-- divided by 1, a number stays
+pub by_one : (a : ℤ) → floor_by a 1 ≡ a
+by_one (pos n) = let e : n / 1 ≡ n = grind arith in ap pos e
+by_one (negsuc n) = let e : n / 1 ≡ n = grind arith in ap negsuc e

@@ -1,5 +1,5 @@
 -- The identities of a ring over the integers, stated once. Close an identity over variables by `simp ring`.
-use Rattle.std.specs.Prelude.{◌≡◌, zero, suc, ◌*◌, ℤ, pos, negsuc, ◌+ℤ◌, ◌*ℤ◌, ◌≤ℤ◌, ◌<ℤ◌, neg_ℤ, refl}
+use Rattle.std.specs.Prelude.{◌≡◌, ℕ, zero, suc, ◌*◌, ◌<◌, ℤ, pos, negsuc, ◌+ℤ◌, ◌*ℤ◌, ◌≤ℤ◌, ◌<ℤ◌, neg_ℤ, refl}
 use Rattle.std.proofs.Common.{ap, sym, ◌∙◌, arith}
 use Rattle.std.proofs.lemmas.Int.{ints}
 use borrow.Author.Differences.{up, down, sum_is_lem, product_is, neg_is}
@@ -41,6 +41,14 @@ mul_neg a b = *ℤ_comm a (neg_ℤ b) ∙ neg_mul b a ∙ ap neg_ℤ (*ℤ_comm 
 
 pub ruleset ring = (dist, dist_r, assoc, swap, *ℤ_comm, neg_mul, mul_neg)
 
+pub mul_zero : (a : ℤ) → a *ℤ pos 0 ≡ pos 0
+mul_zero (pos n) = omega (arith, ints)
+mul_zero (negsuc n) = omega (arith, ints)
+
+pub minus_one : (a : ℤ) → negsuc 0 *ℤ a ≡ neg_ℤ a
+minus_one (pos n) = omega (arith, ints)
+minus_one (negsuc n) = omega (arith, ints)
+
 -- a square is at least 0
 pub square_nonneg : (a : ℤ) → pos 0 ≤ℤ (a *ℤ a)
 square_nonneg (pos n) = omega (arith, ints)
@@ -65,3 +73,17 @@ product_zero (pos (suc a)) b h e = let p : pos 0 <ℤ (pos (suc a) *ℤ b) = pro
 product_zero (negsuc a) b h e =
     let p : pos 0 <ℤ (pos (suc a) *ℤ b) = product_positive (pos (suc a)) b (omega (arith, ints)) h in
     absurd (omega (arith, ints, e, neg_mul (pos (suc a)) b))
+
+-- a multiple by a number from 1 is 0 only where the number is
+pub zero_factor : (g : ℕ) (z : ℤ) → 0 < g → pos g *ℤ z ≡ pos 0 → z ≡ pos 0
+zero_factor zero z h e = absurd (omega arith)
+zero_factor (suc g) (pos zero) h e = refl
+zero_factor (suc g) (pos (suc n)) h e = absurd (omega (arith, ints, e))
+zero_factor (suc g) (negsuc n) h e = absurd (omega (arith, ints, e))
+
+-- and above 0 only where the number is
+pub positive_factor : (g : ℕ) (z : ℤ) → pos 0 <ℤ (pos g *ℤ z) → pos 0 <ℤ z
+positive_factor zero z h = absurd (omega (arith, ints, h))
+positive_factor (suc g) (pos zero) h = absurd (omega (arith, ints, h))
+positive_factor (suc g) (pos (suc n)) h = omega (arith, ints)
+positive_factor (suc g) (negsuc n) h = absurd (omega (arith, ints, h))

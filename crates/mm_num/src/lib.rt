@@ -13,6 +13,3 @@ mod frac;
 pub use divide::{ceil_div, floor_div};
 pub use divisor::gcd;
 pub use frac::Frac;
-
-#[cfg(test)]
-mod tests;
