@@ -1,6 +1,6 @@
 -- What names no variable from some number on is the same at points that agree below it.
-use Rattle.std.specs.Prelude.{◌≡◌, ℕ, ◌<◌, nat_lt, ℤ, Bool, true, not, ◌&&◌, ◌||◌, refl}
-use Rattle.std.proofs.Common.{ap, sym, ◌∙◌, subst, arith}
+use Rattle.std.specs.Prelude.{◌≡◌, ℕ, ◌<◌, ℤ, Bool, true, not, ◌&&◌, ◌||◌, refl}
+use Rattle.std.proofs.Common.{ap, sym, ◌∙◌, subst}
 use Rattle.std.proofs.lemmas.Bool.{and_parts}
 use Rattle.goal_ast.specs.declared.term.Term.{Term}
 use Rattle.goal_ast.specs.declared.term.Term.TheOpen.{Term-F}
@@ -19,12 +19,10 @@ use Rattle.goal_ast.specs.Evaluation.{only_if, answer, eval_of, Valued, valued_l
 use Rattle.goal_ast.specs.Variables.{SameBelow, variable_level, names_below, bool_variable_level, bool_names_below, formula_variable_level, formula_names_below}
 use Rattle.goal_ast.proofs.EvaluationLaws.{term_agrees}
 use Rattle.goal_ast.proofs.TruthLaws.{truth_agrees}
+use Rattle.mm_num.proofs.TestLaws.{is_below}
 
 pub both_same : {A B C : Type 0} → (f : A → B → C) (a c : A) (b d : B) → a ≡ c → b ≡ d → f a b ≡ f c d
 both_same f a c b d e g = ap (λ z. f z b) e ∙ ap (λ z. f c z) g
-
-is_below : (v n : ℕ) → nat_lt v n ≡ true → v < n
-is_below v n h = grind arith
 
 abbrev TermSame : ℕ → Point → Point → Term → Type 0
 TermSame n x y t = names_below n t ≡ true → valued x t ≡ valued y t

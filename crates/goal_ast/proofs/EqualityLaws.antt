@@ -18,12 +18,7 @@ use Rattle.goal_ast.specs.declared.term.Term.TheOpen.{Term-F}
 use Rattle.goal_ast.specs.declared.term.Term.TheViews.{roll-Term, out-Term, roll-out-Term, out-roll-Term}
 use Rattle.goal_ast.specs.declared.term.Term.TheFolds.{map-Term, fold-roll-Term, ind-Term}
 use Rattle.goal_ast.specs.Equality.{operator_of, parts_of, sort_number, number_1, number_2, same_operator, same_parts, same_level, same_term}
-
-same_number : (n m : ℕ) → (n == m) ≡ true → n ≡ m
-same_number n m h = grind arith
-
-same_int : (n m : ℤ) → int_eq n m ≡ true → n ≡ m
-same_int n m h = grind (arith, ints)
+use Rattle.mm_num.proofs.TestLaws.{is_number, is_int}
 
 number_same : (n : ℕ) → (n == n) ≡ true
 number_same n = grind arith
@@ -77,24 +72,24 @@ back_2 PosMin = refl
 back_2 PosMax = refl
 
 same_sort : (s t : Sort) → (sort_number s == sort_number t) ≡ true → s ≡ t
-same_sort s t h = same_Some s t (sym (sort_back s) ∙ ap (λ n. slice_get sort_list n) (same_number _ _ h) ∙ sort_back t)
+same_sort s t h = same_Some s t (sym (sort_back s) ∙ ap (λ n. slice_get sort_list n) (is_number _ _ h) ∙ sort_back t)
 
 same_1 : (f g : Fn1) → (number_1 f == number_1 g) ≡ true → f ≡ g
-same_1 f g h = same_Some f g (sym (back_1 f) ∙ ap (λ n. slice_get list_1 n) (same_number _ _ h) ∙ back_1 g)
+same_1 f g h = same_Some f g (sym (back_1 f) ∙ ap (λ n. slice_get list_1 n) (is_number _ _ h) ∙ back_1 g)
 
 same_2 : (f g : Fn2) → (number_2 f == number_2 g) ≡ true → f ≡ g
-same_2 f g h = same_Some f g (sym (back_2 f) ∙ ap (λ n. slice_get list_2 n) (same_number _ _ h) ∙ back_2 g)
+same_2 f g h = same_Some f g (sym (back_2 f) ∙ ap (λ n. slice_get list_2 n) (is_number _ _ h) ∙ back_2 g)
 
 pub operator_is : (o p : Operator) → same_operator o p ≡ true → o ≡ p
-operator_is (operators.Lit n) (operators.Lit m) h = ap operators.Lit (same_int n m h)
-operator_is (operators.Var v) (operators.Var w) h = ap operators.Var (same_number v w h)
+operator_is (operators.Lit n) (operators.Lit m) h = ap operators.Lit (is_int n m h)
+operator_is (operators.Var v) (operators.Var w) h = ap operators.Var (is_number v w h)
 operator_is operators.Neg operators.Neg h = refl
 operator_is operators.Add operators.Add h = refl
 operator_is (operators.Sub s) (operators.Sub t) h = ap operators.Sub (same_sort s t h)
 operator_is operators.Mul operators.Mul h = refl
-operator_is (operators.Pow k) (operators.Pow l) h = ap operators.Pow (same_int k l h)
-operator_is (operators.Div k) (operators.Div l) h = ap operators.Div (same_int k l h)
-operator_is (operators.Rem k) (operators.Rem l) h = ap operators.Rem (same_int k l h)
+operator_is (operators.Pow k) (operators.Pow l) h = ap operators.Pow (is_int k l h)
+operator_is (operators.Div k) (operators.Div l) h = ap operators.Div (is_int k l h)
+operator_is (operators.Rem k) (operators.Rem l) h = ap operators.Rem (is_int k l h)
 operator_is (operators.Call1 f) (operators.Call1 g) h = ap operators.Call1 (same_1 f g h)
 operator_is (operators.Call2 f) (operators.Call2 g) h = ap operators.Call2 (same_2 f g h)
 operator_is o p h = absurd (cc)

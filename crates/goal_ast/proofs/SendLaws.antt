@@ -22,10 +22,10 @@ use Rattle.goal_ast.proofs.term.Term.TheLaws.TheKnot.{send-Term}
 use Rattle.goal_ast.proofs.formula.BTerm.TheLaws.TheKnot.{send-BTerm}
 use Rattle.goal_ast.proofs.formula.Formula.TheLaws.TheKnot.{send-Formula}
 
-boxed_send : (R : RattleType) → IsSend R → IsSend (boxed_row R)
+pub boxed_send : (R : RattleType) → IsSend R → IsSend (boxed_row R)
 boxed_send R s = boxed.the_send R s
 
-boxed_field_send : (R : RattleType) → IsSend R → IsSend (boxed_field R).row
+pub boxed_field_send : (R : RattleType) → IsSend R → IsSend (boxed_field R).row
 boxed_field_send R s = search (sendable, boxed_send, s)
 
 pub term_send : IsSend term_field.row
@@ -43,7 +43,7 @@ bool_row_send = search (sendable, bool_send)
 pub formula_send : IsSend formula_field.row
 formula_send = send-Formula cmp.the_field_send (boxed_field_send _ term_row_send) (boxed_field_send _ bool_row_send) boxed_send
 
-items_field_send : (R : RattleType) → IsSend R → IsSend (items_field R).row
+pub items_field_send : (R : RattleType) → IsSend R → IsSend (items_field R).row
 items_field_send R s = search (sendable, items.the_send, s)
 
 pub goal_send : IsSend goal_row

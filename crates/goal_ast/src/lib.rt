@@ -22,6 +22,3 @@ pub use judge::{eval, in_range};
 pub use law::{bound_variables, equality, strictness};
 pub use term::{Fn1, Fn2, Operator, Sort, Term};
 pub use types::Eval;
-
-#[cfg(test)]
-mod tests;

@@ -25,10 +25,10 @@ use Rattle.goal_token.proofs.SpacingLaws.{begins_append, begins_name_text, spell
 use Rattle.goal_sort.specs.declared.raw.Head.{Head}
 use Rattle.goal_sort.specs.declared.raw.Head.TheVariants as heads
 use Rattle.goal_sort.specs.declared.raw.RawExpr.{RawExpr}
-use Rattle.goal_sort.specs.IsSorted.{literal_fits, written, written_minus, word}
+use Rattle.goal_sort.specs.IsSorted.{literal_fits, written, written_minus, word, node}
 use Rattle.goal_text.specs.declared.precedence.Levels.{Levels}
 use Rattle.goal_text.specs.Levels.{infix_levels, prefix_level, can_chain, arity}
-use Rattle.goal_text.specs.Grammar.{node, sign, function, leaf_of, constant_text, Expr}
+use Rattle.goal_text.specs.Grammar.{sign, function, leaf_of, constant_text, Expr}
 use Rattle.goal_text.specs.Grammar.{leaf as is_leaf, applied as is_applied, applied_to_two as is_applied_to_two, prefixed as is_prefixed, joined as is_joined, chained as is_chained}
 use Rattle.goal_print.specs.Parts.{Part, leaf, number, between, prefixed, joined, chained, applied, applied_to_two, at_most}
 use Rattle.goal_print.proofs.ShortLaws.{extra, none_extra, some_token, infix_short, prefix_short, apply_short, apply_two_short, chain_short}

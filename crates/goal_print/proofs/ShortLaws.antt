@@ -14,8 +14,9 @@ use Rattle.goal_sort.specs.declared.raw.RawExpr.TheOpen.{RawExpr-F}
 use Rattle.goal_sort.specs.declared.raw.RawExpr.TheViews.{out-RawExpr, out-roll-RawExpr}
 use Rattle.goal_text.specs.declared.precedence.Levels.{Levels}
 use Rattle.goal_text.specs.Levels.{infix_levels, prefix_level}
-use Rattle.goal_text.specs.Grammar.{node, sign, function, Expr}
+use Rattle.goal_text.specs.Grammar.{sign, function, Expr}
 use Rattle.goal_text.proofs.LandingLaws.{has_token}
+use Rattle.goal_sort.specs.IsSorted.{node}
 
 -- ---- parentheses
 

@@ -4,7 +4,7 @@ use Rattle.std.specs.Ordering.{int_eq}
 use Rattle.std.proofs.Common.{sym, ◌∙◌, subst, arith}
 use Rattle.std.proofs.lemmas.Int.{ints}
 use Rattle.std.proofs.lemmas.Option.{same_Some}
-use Rattle.std.proofs.lemmas.Bool.{and_parts, and_from}
+use Rattle.std.proofs.lemmas.Bool.{and_parts, and_from, or_left, or_right}
 use Rattle.goal_ast.specs.declared.term.Sort.{Sort}
 use Rattle.goal_ast.specs.declared.term.Sort.TheVariants as sorts
 use Rattle.goal_ast.specs.declared.term.Fn1.{Fn1}
@@ -81,13 +81,6 @@ weaker d z e y sorts.Bin g h m = refl
 weaker d z e y sorts.Nat g h m = refl
 weaker d z e y sorts.Pos g h m = and_from _ _ (not_later d e g (and_parts _ _ m).0) (not_later z y h (and_parts _ _ m).1)
 weaker d z e y sorts.Bool g h m = absurd (cc)
-
-or_left : (d e : Bool) → d ≡ true → (d || e) ≡ true
-or_left d e h = rw h refl
-
-or_right : (d e : Bool) → e ≡ true → (d || e) ≡ true
-or_right true e h = refl
-or_right false e h = h
 
 taken_goes : (d z : Bool) (s : Sort) (m : Kind) (b : Bool) → may_take d z s ≡ b → fixed_if b s ≡ Some m → BothGo (free d z) (fixed s) m
 taken_goes d z s m true h e = subst (BothGo (free d z) (fixed s)) (same_Some _ _ e) (h, refl)

@@ -23,6 +23,7 @@ use Rattle.goal_text.specs.Files.{word, sort, name, bounds, Sessions}
 use Rattle.goal_text.specs.Steps.{named, with_goal, FileRead, file_with, file_of}
 use Rattle.goal_text.proofs.StandingLaws.{is_front}
 use Rattle.goal_text.proofs.SessionLaws.{KnownFile, file_known, file_ends}
+use Rattle.goal_text.proofs.FileLaws.{in_the_goal}
 
 -- ---- what was read is the front of a file
 
@@ -45,10 +46,6 @@ some_name = record { bytes = codes "x" }
 
 dot : Placed
 dot = sign signs.Dot 0
-
--- reading in a goal
-abbrev in_the_goal : List RawSession → RawSession → ℕ → List RawBound → Part → FileRead
-in_the_goal done w p bs part = (done, states.Within w (betweens.Goal p bs part))
 
 open_front : (done : List RawSession) (w : RawSession) (ts : List Placed) → KnownFile done (states.Within w betweens.Open) ts → IsFileFront ts
 open_front done w ts h = whole_front (done, states.Within w betweens.Open) ts (done ++ w ∷ []) h refl

@@ -22,9 +22,10 @@ use Rattle.goal_text.specs.declared.frame.Frame.{Frame}
 use Rattle.goal_text.specs.declared.frame.Frame.TheVariants.{Open, Prefix, Infix, Chain, First, Last}
 use Rattle.goal_text.specs.declared.precedence.Levels.{Levels}
 use Rattle.goal_text.specs.Levels.{between, infix_levels, prefix_level, can_chain, arity}
-use Rattle.goal_text.specs.Grammar.{node, sign, function, leaf_of, Expr, leaf, grouped, applied, applied_to_two, prefixed, joined, chained}
+use Rattle.goal_text.specs.Grammar.{sign, function, leaf_of, Expr, leaf, grouped, applied, applied_to_two, prefixed, joined, chained}
 use Rattle.goal_text.specs.Operands.{Whole, Reading, highest, room, right_of, level_of, prefix_of, closed, chain_with, joins, ends_group, finished, call, sign_opens, opens, sign_follows, follows, with_token, with_tokens, read_of}
 use Rattle.goal_text.proofs.LevelLaws.{sides, no_tie, no_tie_before, infix_high, prefix_high}
+use Rattle.goal_sort.specs.IsSorted.{node}
 
 -- ---- several constructs that end in turn
 

@@ -22,15 +22,13 @@ use Rattle.goal_sort.specs.declared.raw.RawExpr.{RawExpr}
 use Rattle.goal_sort.specs.declared.raw.RawExpr.TheFolds.{fold-roll-RawExpr}
 use Rattle.goal_sort.specs.Sorting.{head_fits, all_true, literals_level, literals_fit, raw_nodes}
 use Rattle.goal_text.specs.declared.state.Named.{Named}
-use Rattle.goal_text.specs.Grammar.{node, sign, leaf_of, constant_text, Expr, leaf, grouped, applied, applied_to_two, prefixed, joined, chained}
+use Rattle.goal_text.specs.Grammar.{sign, leaf_of, constant_text, Expr, leaf, grouped, applied, applied_to_two, prefixed, joined, chained}
 use Rattle.goal_text.specs.Files.{word, sort, name, group, bounds, Groups, first_group, next_group, Prefixes, no_prefix, bare_prefix, grouped_prefix}
 use Rattle.goal_sort.proofs.NumberLaws.{raw_size}
+use Rattle.mm_num.proofs.ListLaws.{all_join}
+use Rattle.goal_sort.specs.IsSorted.{node}
 
 -- ---- what holds of each element of two lists
-
-pub all_of_both : {A : Type 0} (P : A → Type 0) (xs ys : List A) → AllByRecursion P xs → AllByRecursion P ys → AllByRecursion P (xs ++ ys)
-all_of_both P [] ys a b = b
-all_of_both P (x ∷ xs) ys a b = (a.0, all_of_both P xs ys a.1 b)
 
 pub all_of_first : {A : Type 0} (P : A → Type 0) (xs ys : List A) → AllByRecursion P (xs ++ ys) → AllByRecursion P xs
 all_of_first P [] ys a = tt
@@ -123,7 +121,7 @@ second_named : (ts us : List Placed) → AreNamed (ts ++ us) → AreNamed us
 second_named ts us all = all_of_second (λ (t : Placed). IsNamed t.token) ts us all
 
 both_bind : (bs cs : List RawBound) → BindNames bs → BindNames cs → BindNames (bs ++ cs)
-both_bind bs cs a b = all_of_both (λ (b : RawBound). IsName b.name.bytes) bs cs a b
+both_bind bs cs a b = all_join (λ (b : RawBound). IsName b.name.bytes) bs cs a b
 
 names_bind : (s : Sort) (names : List Named) → AreNamed (map name names) → BindNames (bounds s names)
 names_bind s [] all = tt

@@ -23,7 +23,8 @@ use Rattle.goal_text.specs.Refusals.{IsFront, HasNo, BodySoFar, names_in, BoundS
 use Rattle.goal_text.specs.GoalsRead.{IsGoalOfFile, AreGoalsOfFile}
 use Rattle.goal_text.proofs.StandingLaws.{HasRead}
 use Rattle.goal_text.proofs.CleanLaws.{body_has_no_dot, body_begins, has_no_append, names_append, names_no_comma, names_count, groups_no_comma, groups_count}
-use Rattle.goal_text.proofs.ReadableLaws.{all_of_both, all_of_first, all_of_second, all_more, few_nodes, fitting_literals, prefixes_bind}
+use Rattle.goal_text.proofs.ReadableLaws.{all_of_first, all_of_second, all_more, few_nodes, fitting_literals, prefixes_bind}
+use Rattle.mm_num.proofs.ListLaws.{all_join}
 
 -- ---- where a goal stands
 
@@ -76,7 +77,7 @@ goals_stand (next_goal {gs = gs} {bs = bs} {e = e} {ts = ts} {us = us} {vs = vs}
     let last : List Placed = ws ++ word (mode_word m) r ∷ sign signs.Dot t ∷ xs in
     let more : List Placed = word keywords.Goal p ∷ (us ++ (vs ++ sign signs.Dot q ∷ last)) in
     let raw : RawGoal = record { mode = m; bound = bs; body = e; at = p } in
-    all_of_both (StandsIn (ts ++ more)) gs (raw ∷ []) (all_more (StandsIn ts) (StandsIn (ts ++ more)) gs (stands_before ts more) (goals_stand before))
+    all_join (StandsIn (ts ++ more)) gs (raw ∷ []) (all_more (StandsIn ts) (StandsIn (ts ++ more)) gs (stands_before ts more) (goals_stand before))
     (record { outer = ts; place = p; head = us; body = vs; dot = q; rest = last; spelled = refl; prefixes = prefixes; expression = body }, tt)
 
 pub sessions_stand : {ss : List RawSession} {ts : List Placed} → Sessions ss ts → AllByRecursion (λ (s : RawSession). AllByRecursion (StandsIn ts) s.goals) ss
@@ -85,7 +86,7 @@ sessions_stand (next_session {ss = ss} {gs = gs} {ts = ts} {us = us} n p q befor
     let front : List Placed = word keywords.Session p ∷ name n ∷ sign signs.Dot q ∷ [] in
     let all : List Placed = ts ++ word keywords.Session p ∷ name n ∷ sign signs.Dot q ∷ us in
     let last : RawSession = record { name = n.name; goals = gs } in
-    all_of_both (λ (s : RawSession). AllByRecursion (StandsIn all) s.goals) ss (last ∷ [])
+    all_join (λ (s : RawSession). AllByRecursion (StandsIn all) s.goals) ss (last ∷ [])
     (all_more (λ (s : RawSession). AllByRecursion (StandsIn ts) s.goals) (λ (s : RawSession). AllByRecursion (StandsIn all) s.goals) ss (λ s. all_more (StandsIn ts) (StandsIn all) s.goals (stands_before ts (front ++ us))) (sessions_stand before))
     (all_more (StandsIn us) (StandsIn all) gs (λ raw h. stands_after ts (front ++ us) raw (stands_after front us raw h)) (goals_stand goals), tt)
 

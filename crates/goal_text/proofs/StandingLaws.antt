@@ -22,11 +22,12 @@ use Rattle.goal_text.specs.declared.frame.Frame.{Frame}
 use Rattle.goal_text.specs.declared.frame.Frame.TheVariants.{Open, Prefix, Infix, Chain, First, Last}
 use Rattle.goal_text.specs.declared.precedence.Levels.{Levels}
 use Rattle.goal_text.specs.Levels.{infix_levels, prefix_level, can_chain, arity}
-use Rattle.goal_text.specs.Grammar.{node, sign, function, leaf_of, constant_text, Expr, leaf, grouped, applied, applied_to_two, prefixed, joined, chained}
+use Rattle.goal_text.specs.Grammar.{sign, function, leaf_of, constant_text, Expr, leaf, grouped, applied, applied_to_two, prefixed, joined, chained}
 use Rattle.goal_text.specs.Operands.{Whole, Reading, highest, room, level_of, right_of, prefix_of, closed, chain_with, attached, wanted_if, joins, after_group, ends_group, finished, call, opens_group, sign_opens, opens, closes_group, sign_follows, token_follows, follows, with_token, read_of}
 use Rattle.goal_text.proofs.OptionLaws.{guard_some}
 use Rattle.goal_text.proofs.LevelLaws.{level_low}
 use Rattle.goal_text.proofs.LandingLaws.{chain_is, chain_right}
+use Rattle.goal_sort.specs.IsSorted.{node}
 
 -- an expression of at most a level is one of at most a higher level
 pub wider : {n : ℕ} {e : RawExpr} {ts : List Placed} (m : ℕ) → n ≤ m → Expr n e ts → Expr m e ts

@@ -11,12 +11,10 @@ use Rattle.goal_token.specs.declared.token.Constant.TheVariants as constants
 use Rattle.goal_token.specs.Numbers.{sign_number, function_number}
 use Rattle.goal_sort.specs.declared.raw.Head.{Head}
 use Rattle.goal_sort.specs.declared.raw.Head.TheVariants as heads
-use Rattle.goal_sort.specs.declared.raw.RawExpr.{RawExpr, roll-RawExpr}
+use Rattle.goal_sort.specs.declared.raw.RawExpr.{RawExpr}
 use Rattle.goal_text.specs.declared.precedence.Levels.{Levels}
 use Rattle.goal_text.specs.Levels.{infix_levels, prefix_level, can_chain, arity}
-
-abbrev pub node : Head → ℕ → List RawExpr → RawExpr
-node h p parts = roll-RawExpr (record { head = h; at = p; parts = parts })
+use Rattle.goal_sort.specs.IsSorted.{node}
 
 abbrev pub sign : Sign → ℕ → Placed
 sign s p = record { token = tokens.Sign s; at = p }

@@ -16,7 +16,8 @@ use Rattle.goal_text.specs.declared.frame.Frame.{Frame}
 use Rattle.goal_text.specs.declared.frame.Frame.TheVariants.{Open, Prefix, Infix, Chain, First, Last}
 use Rattle.goal_text.specs.declared.precedence.Levels.{Levels}
 use Rattle.goal_text.specs.Levels.{infix_levels, prefix_level, can_chain, arity}
-use Rattle.goal_text.specs.Grammar.{node, constant_text}
+use Rattle.goal_text.specs.Grammar.{constant_text}
+use Rattle.goal_sort.specs.IsSorted.{node}
 
 -- the highest level that an operand may have right after a sign
 abbrev pub right_of : Sign → ℕ

@@ -1,5 +1,5 @@
 ghost use Rattle.std.specs.Prelude.{◌≡◌, ◌∷◌, [], IfOk, map};
-ghost use Rattle.goal_text.specs.Grammar.{node};
+ghost use Rattle.goal_sort.specs.IsSorted.{node};
 ghost use Rattle.goal_text.specs.Giving.{Gives};
 ghost use Rattle.goal_text.specs.Operands.{highest, prefix_of, right_of, level_of, closed, arguments};
 

@@ -2,7 +2,8 @@
 
 ghost use Rattle.std.specs.Prelude.{◌≡◌, ◌∷◌, [], Some, None, IfOk, nat_le};
 ghost use Rattle.goal_text.specs.Giving.{Leaves, LeavesWith};
-ghost use Rattle.goal_text.specs.Grammar.{node, constant_text};
+ghost use Rattle.goal_sort.specs.IsSorted.{node};
+ghost use Rattle.goal_text.specs.Grammar.{constant_text};
 ghost use Rattle.goal_text.specs.Operands.{wanted_if, room, call, opens_group, sign_opens, opens};
 
 use crate::closing::{highest, leaf};
