@@ -4,20 +4,22 @@
 -- It enters at one step, where s leaves, and leaves at another, at whose point t is below 0 and no other variable that
 -- moves is. The equation of s at the first step holds at that point, but none of its terms is below 0 there, and the
 -- constant's is above.
-use Rattle.std.specs.Prelude.{◌≡◌, ◌≢◌, ℕ, zero, suc, ◌<◌, ◌≤◌, ◌⊎◌, Bool, true, false, List, ◌∷◌, ℤ, pos, negsuc, ◌*ℤ◌, ◌≤ℤ◌, ◌<ℤ◌, neg_ℤ}
+use Rattle.std.specs.Prelude.{◌≡◌, ◌≢◌, ℕ, zero, suc, ◌<◌, ◌≤◌, ◌⊎◌, false, List, ◌∷◌, ℤ, pos, negsuc, ◌*ℤ◌, ◌≤ℤ◌, ◌<ℤ◌, neg_ℤ}
 use Rattle.std.proofs.Common.{ap, sym, ◌∙◌, subst, inl, inr, arith}
 use Rattle.std.proofs.lemmas.Int.{ints}
 use Rattle.std.proofs.Math.IntN.{*ℤ_comm}
-use Rattle.mm_num.proofs.Ring.{product_positive, product_nonneg, neg_mul, mul_neg}
+use Rattle.mm_num.proofs.Ring.{product_positive, product_nonneg, neg_mul, mul_neg, mul_zero}
 use Rattle.simplex_core.specs.declared.row.LinRow.{LinRow}
 use Rattle.simplex_core.specs.declared.solved.Pivot.{Pivot}
 use Rattle.simplex_core.specs.Rows.{dot}
 use Rattle.simplex_core.specs.Form.{at, Among, one_of, Line, basis_of, IsLine, IsForm}
 use Rattle.simplex_core.specs.Walk.{is_equality, shortfall, IsBroken, IsDue, Leads}
-use Rattle.simplex_core.proofs.DotLaws.{dot_positive, times_zero}
+use Rattle.simplex_core.proofs.DotLaws.{dot_positive}
 use Rattle.simplex_core.proofs.ExchangeLaws.{same_or_not, among_or_not, of_all, line_of}
 use Rattle.simplex_core.proofs.SpotLaws.{IsSpot, has_spot, spot_nonneg, spot_negative}
 use Rattle.simplex_core.proofs.WalkLaws.{entering, leaving, from_map, Step, step_of, Inside, left_enters, entered_leaves, unmoved, moves_slack, greatest}
+use Rattle.mm_num.proofs.BoolLaws.{contrary}
+use Rattle.mm_num.proofs.TestLaws.{sign_cases}
 
 -- a step at which t enters, one at which it leaves, and the moves between
 pub record Clash (n : ℕ) (rows : List LinRow) (f : List Line) (l : Line) (p : Pivot) (g : List Line) (k : Line) (q : Pivot) (t : ℕ) (moves : List ℕ) : Type 0 where
@@ -33,21 +35,14 @@ pub record Clash (n : ℕ) (rows : List LinRow) (f : List Line) (l : Line) (p : 
   pub still : (x : ℕ) → (Among x moves → ⊥) → Among x (basis_of g) → Among x (basis_of f)
   pub moving : Among t moves
 
-true_false : {P : Type 0} (b : Bool) → b ≡ true → b ≡ false → P
-true_false b h k = cc
-
 int_cases : (z : ℤ) → (pos 0 <ℤ z) ⊎ (z ≤ℤ pos 0)
 int_cases (pos zero) = inr (omega (arith, ints))
 int_cases (pos (suc n)) = inl (omega (arith, ints))
 int_cases (negsuc n) = inr (omega (arith, ints))
 
-sign_cases : (z : ℤ) → (z <ℤ pos 0) ⊎ (pos 0 ≤ℤ z)
-sign_cases (pos n) = inr (omega (arith, ints))
-sign_cases (negsuc n) = inl (omega (arith, ints))
-
 -- the broken slack of an inequality is below 0
 pub broken_below : (n : ℕ) (rows : List LinRow) (l : Line) → IsBroken n rows l → is_equality n rows l.0 ≡ false → pos 0 <ℤ shortfall n rows l
-broken_below n rows l b e = elim b.1 as (λ _. pos 0 <ℤ shortfall n rows l) [ inl a ↦ a | inr a ↦ true_false (is_equality n rows l.0) a.0 e ]
+broken_below n rows l b e = elim b.1 as (λ _. pos 0 <ℤ shortfall n rows l) [ inl a ↦ a | inr a ↦ contrary (is_equality n rows l.0) a.0 e ]
 
 -- the line at which t enters is below 0 at its own variable
 first_below : (n : ℕ) (rows : List LinRow) (f : List Line) (l : Line) (p : Pivot) (g : List Line) (k : Line) (q : Pivot) (t : ℕ) (moves : List ℕ)
@@ -89,10 +84,10 @@ lower_value n rows f l p g k q t moves c v s x m less inside = elim (among_or_no
 ]
 
 zero_product : (a b : ℤ) → b ≡ pos 0 → pos 0 ≤ℤ (a *ℤ b)
-zero_product a b e = let z : a *ℤ b ≡ pos 0 = ap (λ t. a *ℤ t) e ∙ times_zero a in omega (arith, ints, z)
+zero_product a b e = let z : a *ℤ b ≡ pos 0 = ap (λ t. a *ℤ t) e ∙ mul_zero a in omega (arith, ints, z)
 
 zero_factor : (a b : ℤ) → a ≡ pos 0 → pos 0 ≤ℤ (a *ℤ b)
-zero_factor a b e = let z : a *ℤ b ≡ pos 0 = *ℤ_comm a b ∙ ap (λ t. b *ℤ t) e ∙ times_zero b in omega (arith, ints, z)
+zero_factor a b e = let z : a *ℤ b ≡ pos 0 = *ℤ_comm a b ∙ ap (λ t. b *ℤ t) e ∙ mul_zero b in omega (arith, ints, z)
 
 negative_product : (a b : ℤ) → a <ℤ pos 0 → b <ℤ pos 0 → pos 0 ≤ℤ (a *ℤ b)
 negative_product a b h k =

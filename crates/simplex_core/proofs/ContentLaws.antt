@@ -1,5 +1,5 @@
 -- Numbers without common divisor.
-use Rattle.std.specs.Prelude.{◌≡◌, ◌≢◌, ℕ, zero, suc, ◌*◌, ◌/◌, ◌<◌, ◌≤◌, ◌⊎◌, List, [], ◌∷◌, length, drop, ℤ, pos, negsuc, ◌+ℤ◌, ◌*ℤ◌, unsigned_abs, refl}
+use Rattle.std.specs.Prelude.{◌≡◌, ◌≢◌, ℕ, zero, suc, ◌*◌, ◌/◌, ◌<◌, ◌≤◌, ◌⊎◌, List, [], ◌∷◌, length, drop, ℤ, pos, ◌+ℤ◌, ◌*ℤ◌, unsigned_abs, refl}
 use Rattle.std.proofs.Common.{ap, sym, ◌∙◌, subst, inl, inr, arith, mul-one}
 use Rattle.std.proofs.lemmas.Int.{ints, unsigned_abs-mul}
 use Rattle.std.specs.Int.{◌∣◌}
@@ -7,13 +7,13 @@ use Rattle.std.proofs.lemmas.Nat.Gcd.{dvd-zero, dvd_trans}
 use Rattle.std.proofs.Math.Nat.{mul-dvd-mul_left, dvd_of_mul-dvd-mul_left, eq-one_of_dvd-one, eq-zero_of_zero-dvd}
 use Rattle.mm_num.specs.Divisor.{gcd_of}
 use Rattle.mm_num.specs.Quotient.{floor_by}
-use Rattle.mm_num.proofs.Ring.{dist, assoc}
+use Rattle.mm_num.proofs.Ring.{dist, assoc, mul_zero}
 use Rattle.mm_num.proofs.DivisorLaws.{gcd_divides}
 use Rattle.mm_num.proofs.FracLaws.{floor_exact}
 use Rattle.simplex_core.specs.Rows.{dot}
 use Rattle.simplex_core.specs.Form.{at, DividesAll}
 use Rattle.simplex_core.specs.machine.Tableau.{content, divided, lowered}
-use Rattle.simplex_core.proofs.DotLaws.{times_zero}
+use Rattle.mm_num.proofs.QuotientLaws.{by_one}
 
 trans_all : (g h : ℕ) (cs : List ℤ) → g ∣ h → DividesAll h cs → DividesAll g cs
 trans_all g h [] d k = tt
@@ -50,12 +50,12 @@ length-divided g (c ∷ cs) = ap suc (length-divided g cs)
 
 -- times the divisor, each is what it was
 pub at-divided : (g : ℕ) (cs : List ℤ) (i : ℕ) → 0 < g → DividesAll g cs → pos g *ℤ at (divided g cs) i ≡ at cs i
-at-divided g [] i h d = times_zero (pos g)
+at-divided g [] i h d = mul_zero (pos g)
 at-divided g (c ∷ cs) zero h d = floor_exact c g h d.0
 at-divided g (c ∷ cs) (suc i) h d = at-divided g cs i h d.1
 
 pub dot-divided : (g : ℕ) (cs : List ℤ) (v : ℕ → ℤ) → 0 < g → DividesAll g cs → pos g *ℤ dot v (divided g cs) ≡ dot v cs
-dot-divided g [] v h d = times_zero (pos g)
+dot-divided g [] v h d = mul_zero (pos g)
 dot-divided g (c ∷ cs) v h d =
     dist (pos g) (floor_by c g *ℤ v 0) (dot (λ i. v (suc i)) (divided g cs))
     ∙ ap (λ z. z +ℤ pos g *ℤ dot (λ i. v (suc i)) (divided g cs)) (sym (assoc (pos g) (floor_by c g) (v 0)) ∙ ap (λ z. z *ℤ v 0) (floor_exact c g h d.0))
@@ -90,14 +90,9 @@ content_one cs i e =
     let d : content cs ∣ content (drop i cs) = divides_content (content cs) (drop i cs) (dropped (content cs) cs i (content_divides cs)) in
     eq-one_of_dvd-one (subst (λ (n : ℕ). content cs ∣ n) e d)
 
--- a small number or none is divided by nothing
-whole : (c : ℤ) → floor_by c 1 ≡ c
-whole (pos n) = let e : n / 1 ≡ n = omega arith in ap pos e
-whole (negsuc n) = let e : n / 1 ≡ n = omega arith in ap negsuc e
-
 all_whole : (cs : List ℤ) → divided 1 cs ≡ cs
 all_whole [] = refl
-all_whole (c ∷ cs) = ap (λ x. x ∷ divided 1 cs) (whole c) ∙ ap (λ xs. c ∷ xs) (all_whole cs)
+all_whole (c ∷ cs) = ap (λ x. x ∷ divided 1 cs) (by_one c) ∙ ap (λ xs. c ∷ xs) (all_whole cs)
 
 all_zero : (cs : List ℤ) → DividesAll 0 cs → divided 0 cs ≡ cs
 all_zero [] h = refl

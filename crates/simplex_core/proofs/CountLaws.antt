@@ -7,17 +7,16 @@ use Rattle.simplex_core.specs.declared.row.LinRow.{LinRow}
 use Rattle.simplex_core.specs.declared.solved.Pivot.{Pivot}
 use Rattle.simplex_core.specs.Form.{Among, Distinct, one_of, Line, basis_of, IsLine, IsForm}
 use Rattle.simplex_core.specs.Walk.{Leads, choose}
-use Rattle.simplex_core.proofs.ExchangeLaws.{same_or_not, same_test, other_test, of_all, to_all, length-basis_of, line_of, Among-append_left, Among-append_right}
+use Rattle.simplex_core.proofs.ExchangeLaws.{same_or_not, other_test, of_all, to_all, length-basis_of, line_of, Among-append_left, Among-append_right}
 use Rattle.simplex_core.proofs.WalkLaws.{Inside}
 use Rattle.simplex_core.proofs.ClashLaws.{no_return}
+use Rattle.mm_num.proofs.BoolLaws.{never}
+use Rattle.mm_num.proofs.TestLaws.{number_test}
 
 -- whether a number is in the list
 abbrev pub has : ℕ → List ℕ → Bool
 has i [] = false
 has i (b ∷ bs) = if i == b then true else has i bs
-
-differ : {P : Type 0} → false ≡ true → P
-differ h = cc
 
 next : (s b : ℕ) → s ≤ b → s ≢ b → suc s ≤ b
 next s b h d = grind arith
@@ -25,12 +24,12 @@ next s b h d = grind arith
 has_true : (i : ℕ) (bs : List ℕ) → Among i bs → has i bs ≡ true
 has_true i [] h = absurd h
 has_true i (b ∷ bs) h = elim (same_or_not i b) as (λ _. has i (b ∷ bs) ≡ true) [
-  | inl e ↦ rw (same_test i b e) refl
+  | inl e ↦ rw (number_test i b e) refl
   | inr d ↦ elim h as (λ _. has i (b ∷ bs) ≡ true) [ inl e ↦ absurd (d e) | inr m ↦ rw (other_test i b d) (has_true i bs m) ]
 ]
 
 true_has : (i : ℕ) (bs : List ℕ) → has i bs ≡ true → Among i bs
-true_has i [] h = differ h
+true_has i [] h = never h
 true_has i (b ∷ bs) h = elim (same_or_not i b) as (λ _. Among i (b ∷ bs)) [
   | inl e ↦ inl e
   | inr d ↦ inr (true_has i bs ((rw (other_test i b d) at h)))
@@ -71,7 +70,7 @@ mask_more s zero b bs h j f = absurd (omega arith)
 mask_more s (suc k) b bs h j f = elim (same_or_not s b) as (λ _. trues (mask_from s (suc k) (b ∷ bs)) ≡ suc (trues (mask_from s (suc k) bs))) [
   | inl e ↦
       let past : mask_from (suc s) k (b ∷ bs) ≡ mask_from (suc s) k bs = mask_past (suc s) k b bs (omega (arith, e)) in
-      ap (λ t. trues ((if t then true else has s bs) ∷ mask_from (suc s) k (b ∷ bs))) (same_test s b e)
+      ap (λ t. trues ((if t then true else has s bs) ∷ mask_from (suc s) k (b ∷ bs))) (number_test s b e)
       ∙ ap (λ ts. suc (trues ts)) past
       ∙ sym (ap (λ t. suc (trues (t ∷ mask_from (suc s) k bs))) (ap (λ x. has x bs) e ∙ f))
   | inr d ↦

@@ -1,8 +1,8 @@
 -- Sums of numbers times the values of a point.
-use Rattle.std.specs.Prelude.{◌≡◌, ◌≢◌, ℕ, zero, suc, ◌+◌, ◌<◌, List, [], ◌∷◌, ◌++◌, length, ℤ, pos, negsuc, ◌+ℤ◌, ◌*ℤ◌, ◌≤ℤ◌, ◌<ℤ◌, neg_ℤ, refl}
+use Rattle.std.specs.Prelude.{◌≡◌, ◌≢◌, ℕ, zero, suc, ◌+◌, ◌<◌, List, [], ◌∷◌, ◌++◌, length, ℤ, pos, ◌+ℤ◌, ◌*ℤ◌, ◌≤ℤ◌, ◌<ℤ◌, neg_ℤ, refl}
 use Rattle.std.proofs.Common.{ap, ◌∙◌, arith}
 use Rattle.std.proofs.lemmas.Int.{ints}
-use Rattle.mm_num.proofs.Ring.{dist, dist_r, assoc, neg_mul}
+use Rattle.mm_num.proofs.Ring.{dist, dist_r, assoc, neg_mul, mul_zero}
 use Rattle.simplex_core.specs.Rows.{dot}
 use Rattle.simplex_core.specs.Form.{at}
 use Rattle.simplex_core.specs.machine.Tableau.{negated, combined}
@@ -12,12 +12,8 @@ length-combined a b [] ds h = refl
 length-combined a b (c ∷ cs) [] h = absurd (omega arith)
 length-combined a b (c ∷ cs) (d ∷ ds) h = let e = length-combined a b cs ds (omega arith) in omega arith
 
-pub times_zero : (a : ℤ) → a *ℤ pos 0 ≡ pos 0
-times_zero (pos n) = omega (arith, ints)
-times_zero (negsuc n) = omega (arith, ints)
-
 zero_terms : (a b : ℤ) → pos 0 ≡ a *ℤ pos 0 +ℤ b *ℤ pos 0
-zero_terms a b = omega (arith, ints, times_zero a, times_zero b)
+zero_terms a b = omega (arith, ints, mul_zero a, mul_zero b)
 
 pub at-combined : (a b : ℤ) (cs ds : List ℤ) (i : ℕ) → length cs ≡ length ds → at (combined a b cs ds) i ≡ a *ℤ at cs i +ℤ b *ℤ at ds i
 at-combined a b [] [] i h = zero_terms a b

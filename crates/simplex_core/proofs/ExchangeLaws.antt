@@ -1,12 +1,10 @@
 -- Members of a list, and an exchange of one variable for another.
-use Rattle.std.specs.Prelude.{◌≡◌, ◌≢◌, ℕ, zero, suc, ◌⊎◌, true, false, if◌then◌else◌, ◌==◌, List, [], ◌∷◌, ◌++◌, length, refl}
+use Rattle.std.specs.Prelude.{◌≡◌, ◌≢◌, ℕ, zero, suc, ◌⊎◌, false, if◌then◌else◌, ◌==◌, List, [], ◌∷◌, ◌++◌, length, refl}
 use Rattle.std.proofs.Common.{ap, sym, ◌∙◌, subst, inl, inr, arith}
 use Rattle.std.specs.List.{AllByRecursion}
 use Rattle.simplex_core.specs.Form.{Among, Distinct, Line, basis_of}
 use Rattle.simplex_core.specs.Walk.{exchanged}
-
-pub same_test : (i j : ℕ) → i ≡ j → (i == j) ≡ true
-same_test i j h = grind arith
+use Rattle.mm_num.proofs.TestLaws.{number_test}
 
 pub other_test : (i j : ℕ) → i ≢ j → (i == j) ≡ false
 other_test i j h = grind arith
@@ -70,7 +68,7 @@ place : ℕ → ℕ → ℕ → ℕ
 place s e b = if b == s then e else b
 
 when_same : (s e b : ℕ) → b ≡ s → (if b == s then e else b) ≡ e
-when_same s e b h = rw (same_test b s h) refl
+when_same s e b h = rw (number_test b s h) refl
 
 when_other : (s e b : ℕ) → b ≢ s → (if b == s then e else b) ≡ b
 when_other s e b h = rw (other_test b s h) refl

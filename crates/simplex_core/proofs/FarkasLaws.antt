@@ -1,5 +1,5 @@
 -- Where nothing can mend a broken slack, its equation holds multipliers that refute the rows.
-use Rattle.std.specs.Prelude.{◌≡◌, ◌≢◌, ℕ, zero, suc, ◌+◌, ◌-◌, ◌<◌, ◌≤◌, ◌⊎◌, Bool, true, false, if◌then◌else◌, ◌==◌, nat_lt, List, [], ◌∷◌, ◌++◌, length, take, drop, ℤ, pos, negsuc, ◌+ℤ◌, ◌*ℤ◌, ◌≤ℤ◌, ◌<ℤ◌, neg_ℤ, refl}
+use Rattle.std.specs.Prelude.{◌≡◌, ◌≢◌, ℕ, zero, suc, ◌+◌, ◌-◌, ◌<◌, ◌≤◌, ◌⊎◌, true, false, if◌then◌else◌, ◌==◌, nat_lt, List, [], ◌∷◌, ◌++◌, length, take, drop, ℤ, pos, negsuc, ◌+ℤ◌, ◌*ℤ◌, ◌≤ℤ◌, ◌<ℤ◌, neg_ℤ, refl}
 use Rattle.std.proofs.Common.{ap, sym, ◌∙◌, subst, inl, inr, arith}
 use Rattle.std.proofs.lemmas.Int.{ints}
 use Rattle.std.proofs.lemmas.List.{take-map, drop-map, take-append-drop, length-take, length-drop, get_or-take, get_or-drop}
@@ -10,8 +10,11 @@ use Rattle.simplex_core.specs.Form.{at, Among, one_of, Follows, IsOfRows, Line, 
 use Rattle.simplex_core.specs.Walk.{is_equality, shortfall}
 use Rattle.simplex_core.specs.Farkas.{sum_at, sum_constants, AreSigned, IsFarkas}
 use Rattle.simplex_core.specs.machine.Tableau.{negated, slacks_of, NoneMends}
-use Rattle.simplex_core.proofs.DotLaws.{length-negated, at-negated, dot-negated, from, dot-agrees, dot-append, dot_one, dot_zero, times_zero}
-use Rattle.simplex_core.proofs.ExchangeLaws.{same_test, other_test, same_or_not, among_or_not, of_all}
+use Rattle.simplex_core.proofs.DotLaws.{length-negated, at-negated, dot-negated, from, dot-agrees, dot-append, dot_one, dot_zero}
+use Rattle.simplex_core.proofs.ExchangeLaws.{other_test, same_or_not, among_or_not, of_all}
+use Rattle.mm_num.proofs.BoolLaws.{contrary}
+use Rattle.mm_num.proofs.TestLaws.{sign_cases, number_test, past_test, below_test}
+use Rattle.mm_num.proofs.Ring.{mul_zero}
 
 -- the values of the rows at unknowns x over h, and h after them
 abbrev pub at_rows : (ℕ → ℤ) → ℤ → List LinRow → ℕ → ℤ
@@ -23,19 +26,13 @@ at_rows x h (r ∷ rs) (suc k) = at_rows x h rs k
 abbrev pub point : ℕ → (ℕ → ℤ) → ℤ → List LinRow → (ℕ → ℤ)
 point n x h rows = λ j. if nat_lt j n then x j else at_rows x h rows (j - n)
 
-below_true : (j n : ℕ) → j < n → nat_lt j n ≡ true
-below_true j n h = grind arith
-
-above_false : (n k : ℕ) → nat_lt (n + k) n ≡ false
-above_false n k = grind arith
-
 point_unknown : (n : ℕ) (x : ℕ → ℤ) (h : ℤ) (rows : List LinRow) (j : ℕ) → j < n → point n x h rows j ≡ x j
-point_unknown n x h rows j l = ap (λ t. if t then x j else at_rows x h rows (j - n)) (below_true j n l)
+point_unknown n x h rows j l = ap (λ t. if t then x j else at_rows x h rows (j - n)) (below_test j n l)
 
 point_slack : (n : ℕ) (x : ℕ → ℤ) (h : ℤ) (rows : List LinRow) (k : ℕ) → point n x h rows (n + k) ≡ at_rows x h rows k
 point_slack n x h rows k =
     let z : n + k - n ≡ k = omega arith in
-    ap (λ t. if t then x (n + k) else at_rows x h rows (n + k - n)) (above_false n k) ∙ ap (at_rows x h rows) z
+    ap (λ t. if t then x (n + k) else at_rows x h rows (n + k - n)) (past_test n k) ∙ ap (at_rows x h rows) z
 
 at_rows_last : (x : ℕ → ℤ) (h : ℤ) (rows : List LinRow) → at_rows x h rows (length rows) ≡ h
 at_rows_last x h [] = refl
@@ -75,7 +72,7 @@ unit i = λ j. if j == i then pos 1 else pos 0
 
 unit_same : (i : ℕ) → unit i i ≡ pos 1
 unfolding unit
-unit_same i = ap (λ t. if t then pos 1 else pos 0) (same_test i i refl)
+unit_same i = ap (λ t. if t then pos 1 else pos 0) (number_test i i refl)
 
 unit_other : (i j : ℕ) → j ≢ i → unit i j ≡ pos 0
 unfolding unit
@@ -96,10 +93,10 @@ within_or_past i k = grind arith
 dot_unit : (cs : List ℤ) (i : ℕ) → dot (unit i) cs ≡ at cs i
 dot_unit cs i = elim (within_or_past i (length cs)) as (λ _. dot (unit i) cs ≡ at cs i) [
   | inl l ↦
-      dot_one cs (unit i) i l (λ j k d. ap (λ t. at cs j *ℤ t) (unit_other i j d) ∙ times_zero (at cs j))
+      dot_one cs (unit i) i l (λ j k d. ap (λ t. at cs j *ℤ t) (unit_other i j d) ∙ mul_zero (at cs j))
       ∙ ap (λ t. at cs i *ℤ t) (unit_same i) ∙ times_one (at cs i)
   | inr g ↦
-      dot_zero cs (unit i) (λ j k. ap (λ t. at cs j *ℤ t) (unit_other i j (λ e. absurd (omega (arith, e, k, g)))) ∙ times_zero (at cs j))
+      dot_zero cs (unit i) (λ j k. ap (λ t. at cs j *ℤ t) (unit_other i j (λ e. absurd (omega (arith, e, k, g)))) ∙ mul_zero (at cs j))
       ∙ sym (past cs i g)
 ]
 
@@ -107,7 +104,7 @@ weighted_unit : (i : ℕ) (ms : List ℤ) (rows : List LinRow) → weighted (uni
 weighted_unit i [] rows = refl
 weighted_unit i (m ∷ ms) [] = refl
 weighted_unit i (m ∷ ms) (r ∷ rs) =
-    let a : row_value (unit i) (pos 0) r ≡ at r.coeffs.items i = (let p = dot_unit r.coeffs.items i in let q = times_zero r.constant in omega (arith, ints, p, q)) in
+    let a : row_value (unit i) (pos 0) r ≡ at r.coeffs.items i = (let p = dot_unit r.coeffs.items i in let q = mul_zero r.constant in omega (arith, ints, p, q)) in
     ap (λ z. m *ℤ z +ℤ weighted (unit i) (pos 0) ms rs) a ∙ ap (λ z. m *ℤ at r.coeffs.items i +ℤ z) (weighted_unit i ms rs)
 
 weighted_constant : (ms : List ℤ) (rows : List LinRow) → weighted (λ j. pos 0) (pos 1) ms rows ≡ sum_constants ms rows
@@ -115,7 +112,7 @@ weighted_constant [] rows = refl
 weighted_constant (m ∷ ms) [] = refl
 weighted_constant (m ∷ ms) (r ∷ rs) =
     let a : row_value (λ j. pos 0) (pos 1) r ≡ r.constant =
-    (let p = dot_zero r.coeffs.items (λ j. pos 0) (λ i l. times_zero (at r.coeffs.items i)) in let q = times_one r.constant in omega (arith, ints, p, q)) in
+    (let p = dot_zero r.coeffs.items (λ j. pos 0) (λ i l. mul_zero (at r.coeffs.items i)) in let q = times_one r.constant in omega (arith, ints, p, q)) in
     ap (λ z. m *ℤ z +ℤ weighted (λ j. pos 0) (pos 1) ms rs) a ∙ ap (λ z. m *ℤ r.constant +ℤ z) (weighted_constant ms rs)
 
 one_left : (cs : List ℤ) → length cs ≡ 1 → cs ≡ at cs 0 ∷ []
@@ -161,7 +158,7 @@ balanced n rows cs x h w r =
     dot-append (take n cs) (ms ++ (k ∷ [])) v ∙ ap (λ s. dot v (take n cs) +ℤ dot (from s v) (ms ++ (k ∷ []))) (length-front n (length rows) cs long) in
     let b : dot v (take n cs) ≡ pos 0 = dot_zero (take n cs) v (λ i l.
     let less : i < n = (let q = length-front n (length rows) cs long in omega (arith, l, q)) in
-    ap (λ t. t *ℤ v i) (get_or-take n cs i (pos 0) less ∙ r.unknowns i less) ∙ (*ℤ_comm (pos 0) (v i) ∙ times_zero (v i))) in
+    ap (λ t. t *ℤ v i) (get_or-take n cs i (pos 0) less ∙ r.unknowns i less) ∙ (*ℤ_comm (pos 0) (v i) ∙ mul_zero (v i))) in
     let c : dot (from n v) (ms ++ (k ∷ [])) ≡ dot (from n v) ms +ℤ dot (from (length rows) (from n v)) (k ∷ []) =
     dot-append ms (k ∷ []) (from n v) ∙ ap (λ s. dot (from n v) ms +ℤ dot (from s (from n v)) (k ∷ [])) (length-slacks n (length rows) cs long) in
     let d : dot (from n v) ms ≡ weighted x h ms rows =
@@ -172,7 +169,7 @@ balanced n rows cs x h w r =
     omega (arith, ints, whole, a, b, c, d, f)
 
 pub first_equality : (s : ℕ) (r : LinRow) (rs : List LinRow) → is_equality s (r ∷ rs) (s + 0) ≡ r.equal
-first_equality s r rs = let z : s + 0 ≡ s = omega arith in ap (λ t. if t then r.equal else is_equality (suc s) rs (s + 0)) (same_test (s + 0) s z)
+first_equality s r rs = let z : s + 0 ≡ s = omega arith in ap (λ t. if t then r.equal else is_equality (suc s) rs (s + 0)) (number_test (s + 0) s z)
 
 pub later_equality : (s k : ℕ) (r : LinRow) (rs : List LinRow) → is_equality s (r ∷ rs) (s + suc k) ≡ is_equality (suc s) rs (suc s + k)
 later_equality s k r rs =
@@ -196,7 +193,7 @@ refuting_farkas n rows cs w r = record {
   unknowns = λ i.
       let a = balanced n rows cs (unit i) (pos 0) w r in
       let b = weighted_unit i (slacks_of n (length rows) cs) rows in
-      let c = times_zero (at cs (one_of n rows)) in
+      let c = mul_zero (at cs (one_of n rows)) in
       omega (arith, ints, a, b, c);
   constant =
       let a = balanced n rows cs (λ j. pos 0) (pos 1) w r in
@@ -211,11 +208,7 @@ zero_or_not (pos zero) = inl refl
 zero_or_not (pos (suc n)) = inr (λ e. absurd (omega (arith, ints, e)))
 zero_or_not (negsuc n) = inr (λ e. absurd (omega (arith, ints, e)))
 
-sign_of : (z : ℤ) → (z <ℤ pos 0) ⊎ (pos 0 ≤ℤ z)
-sign_of (pos n) = inr (omega (arith, ints))
-sign_of (negsuc n) = inl (omega (arith, ints))
-
-line_in : (n : ℕ) (rows : List LinRow) (form : List Line) (l : Line) → IsForm n rows form → Among l form → IsLine (one_of n rows) (basis_of form) l
+pub line_in : (n : ℕ) (rows : List LinRow) (form : List Line) (l : Line) → IsForm n rows form → Among l form → IsLine (one_of n rows) (basis_of form) l
 line_in n rows form l h m = of_all (IsLine (one_of n rows) (basis_of form)) form l h.lines m
 
 line_holds : (n : ℕ) (rows : List LinRow) (form : List Line) (l : Line) → IsForm n rows form → Among l form → (v : ℕ → ℤ) → IsOfRows n rows v → dot v l.1 ≡ pos 0
@@ -241,7 +234,7 @@ farkas_below n rows form l w h m low none below =
       long = line.long;
       holds = line_holds n rows form l h m;
       unknowns = no_unknowns n rows form l h m low none;
-      slacks = λ i a b e. elim (sign_of (at l.1 i)) as (λ _. pos 0 ≤ℤ at l.1 i) [
+      slacks = λ i a b e. elim (sign_cases (at l.1 i)) as (λ _. pos 0 ≤ℤ at l.1 i) [
         | inr ge ↦ ge
         | inl lt ↦ elim (among_or_not i (basis_of form)) as (λ _. pos 0 ≤ℤ at l.1 i) [
           | inr o ↦ absurd (none i (b, o) (inr (a, e, inl (below, lt))))
@@ -257,9 +250,6 @@ farkas_below n rows form l w h m low none below =
 flipped : (z : ℤ) → neg_ℤ z <ℤ pos 0 → pos 0 <ℤ z
 flipped z h = omega (arith, ints)
 
-true_false : {P : Type 0} (b : Bool) → b ≡ true → b ≡ false → P
-true_false b h k = cc
-
 -- the line of an equality's slack above 0
 pub farkas_above : (n : ℕ) (rows : List LinRow) (form : List Line) (l : Line) → AreWide n rows → IsForm n rows form → Among l form → n ≤ l.0 → NoneMends n rows form l
     → is_equality n rows l.0 ≡ true → shortfall n rows l <ℤ pos 0 → IsFarkas rows (slacks_of n (length rows) (negated l.1))
@@ -271,12 +261,12 @@ farkas_above n rows form l w h m low none equal above =
       unknowns = λ i k. let p = at-negated l.1 i in let q = no_unknowns n rows form l h m low none i k in omega (arith, ints, p, q);
       slacks = λ i a b e.
           let p = at-negated l.1 i in
-          elim (sign_of (neg_ℤ (at l.1 i))) as (λ _. pos 0 ≤ℤ at (negated l.1) i) [
+          elim (sign_cases (neg_ℤ (at l.1 i))) as (λ _. pos 0 ≤ℤ at (negated l.1) i) [
             | inr ge ↦ omega (arith, ints, p, ge)
             | inl lt ↦ elim (among_or_not i (basis_of form)) as (λ _. pos 0 ≤ℤ at (negated l.1) i) [
               | inr o ↦ absurd (none i (b, o) (inr (a, e, inr (above, flipped (at l.1 i) lt))))
               | inl q ↦ elim (same_or_not i l.0) as (λ _. pos 0 ≤ℤ at (negated l.1) i) [
-                | inl y ↦ true_false (is_equality n rows i) (ap (is_equality n rows) y ∙ equal) e
+                | inl y ↦ contrary (is_equality n rows i) (ap (is_equality n rows) y ∙ equal) e
                 | inr d ↦ let z : at l.1 i ≡ pos 0 = line.others i q d in omega (arith, ints, p, z)
               ]
             ]

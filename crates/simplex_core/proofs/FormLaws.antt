@@ -1,5 +1,5 @@
 -- One exchange gives the form of the new basis.
-use Rattle.std.specs.Prelude.{◌≡◌, ◌≢◌, ℕ, zero, suc, ◌<◌, if◌then◌else◌, ◌==◌, List, [], ◌∷◌, ◌++◌, length, ℤ, pos, negsuc, ◌≤ℤ◌, ◌<ℤ◌, neg_ℤ, unsigned_abs, refl}
+use Rattle.std.specs.Prelude.{◌≡◌, ◌≢◌, ℕ, ◌<◌, if◌then◌else◌, ◌==◌, List, [], ◌∷◌, ◌++◌, length, ℤ, pos, ◌≤ℤ◌, ◌<ℤ◌, neg_ℤ, unsigned_abs, refl}
 use Rattle.std.proofs.Common.{ap, sym, ◌∙◌, subst, inl, inr, arith}
 use Rattle.std.proofs.lemmas.Int.{ints}
 use Rattle.std.proofs.lemmas.List.{length-map}
@@ -12,8 +12,9 @@ use Rattle.simplex_core.specs.Form.{at, Among, Distinct, one_of, Line, basis_of,
 use Rattle.simplex_core.specs.Walk.{exchanged, IsDue, CanMend, Leads}
 use Rattle.simplex_core.specs.machine.Tableau.{negated, swept, turned, moved, pivoted}
 use Rattle.simplex_core.proofs.DotLaws.{length-negated, at-negated, dot-negated}
-use Rattle.simplex_core.proofs.ExchangeLaws.{same_test, other_test, same_or_not, of_all, to_all, from_exchanged, Distinct-exchanged, Among-basis_of}
+use Rattle.simplex_core.proofs.ExchangeLaws.{other_test, same_or_not, of_all, to_all, from_exchanged, Distinct-exchanged, Among-basis_of}
 use Rattle.simplex_core.proofs.PivotLaws.{IsPivot, by_sign, swept_line, swept_vanishes, unswept_vanishes}
+use Rattle.mm_num.proofs.TestLaws.{number_test, positive}
 
 pub basis_of-pivoted : (s e : ℕ) (p : List ℤ) (f : List Line) → basis_of (pivoted s e p f) ≡ exchanged s e (basis_of f)
 basis_of-pivoted s e p [] = refl
@@ -23,7 +24,7 @@ pub length-pivoted : (s e : ℕ) (p : List ℤ) (f : List Line) → length (pivo
 length-pivoted s e p f = length-map f (moved s e p)
 
 pub moved_same : (s e : ℕ) (p : List ℤ) (l : Line) → l.0 ≡ s → moved s e p l ≡ (e, p)
-moved_same s e p l h = ap (λ t. (if t then e else l.0, if t then p else swept e p l.1)) (same_test l.0 s h)
+moved_same s e p l h = ap (λ t. (if t then e else l.0, if t then p else swept e p l.1)) (number_test l.0 s h)
 
 pub moved_other : (s e : ℕ) (p : List ℤ) (l : Line) → l.0 ≢ s → moved s e p l ≡ (l.0, swept e p l.1)
 moved_other s e p l h = ap (λ t. (if t then e else l.0, if t then p else swept e p l.1)) (other_test l.0 s h)
@@ -110,11 +111,6 @@ mender_nonzero n rows l e h = elim h as (λ _. at l.1 e ≢ pos 0) [
     | inr c ↦ λ z. let q : pos 0 <ℤ at l.1 e = c.1 in absurd (omega (arith, ints, z, q))
   ]
 ]
-
-positive : (z : ℤ) → pos 0 ≤ℤ z → z ≢ pos 0 → pos 0 <ℤ z
-positive (pos zero) h d = absurd (d refl)
-positive (pos (suc n)) h d = omega (arith, ints)
-positive (negsuc n) h d = absurd (omega (arith, ints))
 
 abs_negated : (c : ℤ) → unsigned_abs (neg_ℤ c) ≡ unsigned_abs c
 abs_negated c = omega (arith, ints)

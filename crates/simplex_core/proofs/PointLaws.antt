@@ -5,13 +5,12 @@ use Rattle.std.proofs.lemmas.Int.{ints}
 use Rattle.std.specs.List.{AllByRecursion}
 use Rattle.std.proofs.Math.IntN.{*ℤ_comm}
 use Rattle.mm_num.specs.Frac.{IsFraction, HasValue}
-use Rattle.mm_num.proofs.Ring.{dist, dist_r, assoc, swap, neg_mul, product_positive, product_nonneg}
+use Rattle.mm_num.proofs.Ring.{dist, dist_r, assoc, swap, neg_mul, product_positive, product_nonneg, mul_zero}
 use Rattle.simplex_core.specs.declared.row.LinRow.{LinRow}
 use Rattle.simplex_core.specs.Rows.{dot, row_value, unknowns, AreWide, row_fraction, IsSolved, IsPoint}
 use Rattle.simplex_core.specs.Form.{at, Among, one_of, Follows, Line, basis_of, IsLine, IsForm}
 use Rattle.simplex_core.specs.Walk.{is_equality, shortfall}
 use Rattle.simplex_core.specs.machine.Tableau.{line_at, IsValueOf, AreValues, NoneBroken}
-use Rattle.simplex_core.proofs.DotLaws.{times_zero}
 use Rattle.simplex_core.proofs.ExchangeLaws.{among_or_not, of_all, line_of, Among-basis_of}
 use Rattle.simplex_core.proofs.PivotLaws.{cancelled}
 use Rattle.simplex_core.proofs.FormLaws.{same_line}
@@ -50,8 +49,8 @@ value_at : (n : ℕ) (rows : List LinRow) (form : List Line) (v : ℕ → ℤ) (
     → IsValueOf (one_of n rows) form j x → x.0 *ℤ v (one_of n rows) ≡ v j *ℤ x.1
 value_at n rows form v j x h s inside val = elim (among_or_not j (basis_of form)) as (λ _. x.0 *ℤ v (one_of n rows) ≡ v j *ℤ x.1) [
   | inr o ↦
-      ap (λ t. t *ℤ v (one_of n rows)) (val.outside o) ∙ (*ℤ_comm (pos 0) (v (one_of n rows)) ∙ times_zero (v (one_of n rows)))
-      ∙ sym (ap (λ t. t *ℤ x.1) (s.outside j inside o) ∙ (*ℤ_comm (pos 0) x.1 ∙ times_zero x.1))
+      ap (λ t. t *ℤ v (one_of n rows)) (val.outside o) ∙ (*ℤ_comm (pos 0) (v (one_of n rows)) ∙ mul_zero (v (one_of n rows)))
+      ∙ sym (ap (λ t. t *ℤ x.1) (s.outside j inside o) ∙ (*ℤ_comm (pos 0) x.1 ∙ mul_zero x.1))
   | inl b ↦
       let r : (l : Line) × Among l form × (l.0 ≡ j) = line_of j form b in
       let line : IsLine (one_of n rows) (basis_of form) r.0 = of_all (IsLine (one_of n rows) (basis_of form)) form r.0 h.lines r.1 in
@@ -126,7 +125,7 @@ slack_value n rows form v j h s none low high = elim (among_or_not j (basis_of f
         spot_nonneg n rows form v r.0 h s r.1 (sign_at (shortfall n rows r.0) (λ k. none r.0 r.1 (slack, inl k))),
         λ e.
             let z : shortfall n rows r.0 ≡ pos 0 = zero_at (shortfall n rows r.0) (λ d. none r.0 r.1 (slack, inr (e, d))) in
-            let y : shortfall n rows r.0 *ℤ v (one_of n rows) ≡ pos 0 = ap (λ t. t *ℤ v (one_of n rows)) z ∙ (*ℤ_comm (pos 0) (v (one_of n rows)) ∙ times_zero (v (one_of n rows))) in
+            let y : shortfall n rows r.0 *ℤ v (one_of n rows) ≡ pos 0 = ap (λ t. t *ℤ v (one_of n rows)) z ∙ (*ℤ_comm (pos 0) (v (one_of n rows)) ∙ mul_zero (v (one_of n rows))) in
             let p = balance n rows form v r.0 h s r.1 in
             cancelled (at r.0.1 r.0.0) (v r.0.0) line.own (omega (arith, ints, p, y)),
       )
@@ -149,7 +148,7 @@ row_solved r xs v h l w ph ge eq =
       nonneg_numerator (row_fraction r.coeffs.items r.constant xs).0 h (row_fraction r.coeffs.items r.constant xs).1 (row_value v h r) ph f.0 ge f.1,
       λ e. cancelled h (row_fraction r.coeffs.items r.constant xs).0 ph
           (*ℤ_comm h (row_fraction r.coeffs.items r.constant xs).0 ∙ f.1 ∙ ap (λ t. (row_fraction r.coeffs.items r.constant xs).1 *ℤ t) (eq e)
-          ∙ times_zero (row_fraction r.coeffs.items r.constant xs).1),
+          ∙ mul_zero (row_fraction r.coeffs.items r.constant xs).1),
     )
 
 rows_solved : (s one : ℕ) (rows : List LinRow) (xs : List (ℤ × ℤ)) (v : ℕ → ℤ) (n : ℕ) → AreWide n rows → length xs ≡ n → AreOver v (v one) xs → pos 0 <ℤ v one → Follows s one rows v

@@ -1,5 +1,5 @@
 -- The walk of the code, and what it answers.
-use Rattle.std.specs.Prelude.{◌≡◌, ◌≢◌, ℕ, zero, suc, ◌+◌, ◌^◌, ◌<◌, ◌≤◌, ◌⊎◌, Bool, true, false, List, [], ◌∷◌, ◌++◌, length, get_or, ℤ, pos, negsuc, ◌<ℤ◌, ◌≤ℤ◌, ◌-◌, unsigned_abs, refl}
+use Rattle.std.specs.Prelude.{◌≡◌, ◌≢◌, ℕ, zero, suc, ◌+◌, ◌^◌, ◌<◌, ◌≤◌, ◌⊎◌, false, List, [], ◌∷◌, ◌++◌, length, get_or, ℤ, pos, ◌<ℤ◌, ◌≤ℤ◌, ◌-◌, unsigned_abs, refl}
 use Rattle.std.proofs.Common.{ap, sym, ◌∙◌, subst, inl, inr, arith}
 use Rattle.std.proofs.lemmas.Int.{ints}
 use Rattle.std.proofs.lemmas.List.{length_push}
@@ -9,19 +9,21 @@ use Rattle.simplex_core.specs.declared.solved.Pivot.{Pivot}
 use Rattle.simplex_core.specs.declared.solved.Solved.{Solved}
 use Rattle.simplex_core.specs.declared.solved.Solved.TheVariants.{Point, Farkas, Turns, Size}
 use Rattle.simplex_core.specs.Rows.{unknowns, AreWide, IsPoint}
-use Rattle.simplex_core.specs.Form.{at, Among, one_of, Line, basis_of, IsLine, IsForm}
+use Rattle.simplex_core.specs.Form.{at, Among, one_of, Line, basis_of, IsForm}
 use Rattle.simplex_core.specs.Walk.{is_equality, shortfall, IsBroken, CanMend, IsDue, Leads, IsWalk, AreNarrow, IsNarrow, choose}
 use Rattle.simplex_core.specs.Farkas.{IsFarkas}
 use Rattle.simplex_core.specs.Solved.{IfPoint, IfFarkas, IfTurns, IfSize, EndsDue, EndsWide, AreFormsNarrow, IsAnswer}
 use Rattle.simplex_core.specs.machine.Tableau.{turned, pivoted, first_lines, slacks_of, NoneBroken, NoneMends, line_at, IsLeastAt, IsFirstMender, AreValues}
-use Rattle.simplex_core.proofs.ExchangeLaws.{same_or_not, of_all}
+use Rattle.simplex_core.proofs.ExchangeLaws.{same_or_not}
 use Rattle.simplex_core.proofs.FormLaws.{mender_nonzero, next_form, turn}
 use Rattle.simplex_core.proofs.CountLaws.{few_pivots}
 use Rattle.simplex_core.proofs.StartLaws.{first_form, first_basis}
-use Rattle.simplex_core.proofs.FarkasLaws.{farkas_below, farkas_above}
+use Rattle.simplex_core.proofs.FarkasLaws.{farkas_below, farkas_above, line_in}
 use Rattle.simplex_core.proofs.PointLaws.{spot_solves}
 use Rattle.simplex_core.proofs.ChoiceLaws.{place_of}
 use Rattle.simplex_core.proofs.ExchangeSteps.{turned_narrow, turned_below, turned_above}
+use Rattle.mm_num.proofs.BoolLaws.{contrary}
+use Rattle.mm_num.proofs.TestLaws.{sign_cases, positive}
 
 -- some way along the walk
 pub record IsAlong (rows : List LinRow) (n turns : ℕ) (lines : List Line) (ps : List Pivot) (left : ℕ) : Type 0 where
@@ -32,12 +34,6 @@ pub record IsAlong (rows : List LinRow) (n turns : ℕ) (lines : List Line) (ps 
 pub along_start : (rows : List LinRow) (n turns : ℕ) → AreWide n rows → IsAlong rows n turns (first_lines n (length rows) 0 rows) [] turns
 along_start rows n turns w = record { form = first_form n rows w; leads = refl; count = omega arith }
 
-line_of_form : (n : ℕ) (rows : List LinRow) (lines : List Line) (l : Line) → IsForm n rows lines → Among l lines → IsLine (one_of n rows) (basis_of lines) l
-line_of_form n rows lines l h m = of_all (IsLine (one_of n rows) (basis_of lines)) lines l h.lines m
-
-true_false : {P : Type 0} (b : Bool) → b ≡ true → b ≡ false → P
-true_false b h k = cc
-
 not_below : (i k : ℕ) → (k < i → ⊥) → i ≤ k
 not_below i k h = grind arith
 
@@ -45,17 +41,17 @@ not_below i k h = grind arith
 mender_outside : (n : ℕ) (rows : List LinRow) (lines : List Line) (l : Line) (e : ℕ) → IsForm n rows lines → Among l lines → IsBroken n rows l → CanMend n rows l e
     → Among e (basis_of lines) → ⊥
 mender_outside n rows lines l e h m broken mends b = elim (same_or_not e l.0) as (λ _. ⊥) [
-  | inr d ↦ mender_nonzero n rows l e mends ((line_of_form n rows lines l h m).others e b d)
+  | inr d ↦ mender_nonzero n rows l e mends ((line_in n rows lines l h m).others e b d)
   | inl y ↦ elim mends as (λ _. ⊥) [
     | inl a ↦ let p : e < n = a.0 in let q : n ≤ l.0 = broken.0 in omega (arith, p, q, y)
     | inr a ↦
-        let own : pos 0 <ℤ at l.1 e = subst (λ (x : ℕ). pos 0 <ℤ at l.1 x) (sym y) (line_of_form n rows lines l h m).own in
+        let own : pos 0 <ℤ at l.1 e = subst (λ (x : ℕ). pos 0 <ℤ at l.1 x) (sym y) (line_in n rows lines l h m).own in
         let free : is_equality n rows l.0 ≡ false = ap (is_equality n rows) (sym y) ∙ a.1 in
         elim a.2 as (λ _. ⊥) [
           | inl c ↦ let q : at l.1 e <ℤ pos 0 = c.1 in omega (arith, ints, q, own)
           | inr c ↦ let q : shortfall n rows l <ℤ pos 0 = c.0 in elim broken.1 as (λ _. ⊥) [
             | inl x ↦ omega (arith, ints, q, x)
-            | inr x ↦ true_false (is_equality n rows l.0) x.0 free
+            | inr x ↦ contrary (is_equality n rows l.0) x.0 free
           ]
         ]
   ]
@@ -148,16 +144,6 @@ turns_end rows n turns lines ps i enters e w h least first = record {
 pub point_end : (rows : List LinRow) (n : ℕ) (lines : List Line) (xs : List (ℤ × ℤ)) → n ≡ unknowns rows → AreWide n rows → IsForm n rows lines
     → NoneBroken n rows lines → length xs ≡ n → AreValues (one_of n rows) lines 0 xs → IsPoint rows xs
 point_end rows n lines xs e w h none l a = spot_solves n rows lines xs w e h none l a
-
--- the sign of a broken slack's line
-sign_cases : (z : ℤ) → (z <ℤ pos 0) ⊎ (pos 0 ≤ℤ z)
-sign_cases (pos n) = inr (omega (arith, ints))
-sign_cases (negsuc n) = inl (omega (arith, ints))
-
-positive : (z : ℤ) → pos 0 ≤ℤ z → z ≢ pos 0 → pos 0 <ℤ z
-positive (pos zero) h d = absurd (d refl)
-positive (pos (suc n)) h d = omega (arith, ints)
-positive (negsuc n) h d = absurd (omega (arith, ints))
 
 pub farkas_end : (rows : List LinRow) (n : ℕ) (lines : List Line) (i : ℕ) → AreWide n rows → IsForm n rows lines → IsNarrow lines → IsLeastAt n rows lines i
     → ((e : ℕ) → e < one_of n rows → CanMend n rows (line_at lines i) e → ⊥)

@@ -4,13 +4,14 @@ use Rattle.std.proofs.Common.{ap, sym, ◌∙◌, subst, inl, inr, arith}
 use Rattle.std.proofs.lemmas.Int.{ints}
 use Rattle.std.specs.List.{AllByRecursion}
 use Rattle.std.proofs.Math.IntN.{*ℤ_comm}
-use Rattle.mm_num.proofs.Ring.{dist, swap, neg_mul, mul_neg, product_positive, product_nonneg}
+use Rattle.mm_num.proofs.Ring.{dist, swap, neg_mul, mul_neg, product_positive, product_nonneg, mul_zero}
 use Rattle.simplex_core.specs.declared.row.LinRow.{LinRow}
 use Rattle.simplex_core.specs.Rows.{dot}
 use Rattle.simplex_core.specs.Form.{at, Among, Distinct, one_of, Line, basis_of, Vanish, IsLine, IsForm}
 use Rattle.simplex_core.specs.Walk.{shortfall}
-use Rattle.simplex_core.proofs.DotLaws.{dot_two, times_zero}
-use Rattle.simplex_core.proofs.ExchangeLaws.{same_test, other_test, among_or_not, of_all, to_all, Among-basis_of}
+use Rattle.simplex_core.proofs.DotLaws.{dot_two}
+use Rattle.simplex_core.proofs.ExchangeLaws.{other_test, among_or_not, of_all, to_all, Among-basis_of}
+use Rattle.mm_num.proofs.TestLaws.{number_test}
 
 -- a positive denominator, 0 for each variable outside the basis, and the equations hold
 pub record IsSpot (n : ℕ) (rows : List LinRow) (form : List Line) (v : ℕ → ℤ) : Type 0 where
@@ -34,7 +35,7 @@ with_line one l v = λ j. if j == l.0 then neg_ℤ (at l.1 one *ℤ v one) else 
 
 line_here : (one : ℕ) (l : Line) (v : ℕ → ℤ) (j : ℕ) → j ≡ l.0 → with_line one l v j ≡ neg_ℤ (at l.1 one *ℤ v one)
 unfolding with_line
-line_here one l v j h = ap (λ t. if t then neg_ℤ (at l.1 one *ℤ v one) else at l.1 l.0 *ℤ v j) (same_test j l.0 h)
+line_here one l v j h = ap (λ t. if t then neg_ℤ (at l.1 one *ℤ v one) else at l.1 l.0 *ℤ v j) (number_test j l.0 h)
 
 line_other : (one : ℕ) (l : Line) (v : ℕ → ℤ) (j : ℕ) → j ≢ l.0 → with_line one l v j ≡ at l.1 l.0 *ℤ v j
 unfolding with_line
@@ -51,14 +52,14 @@ other_balance a b k x h e =
     let p = swap b a x in
     let q = swap k a h in
     let d = dist a (b *ℤ x) (k *ℤ h) in
-    let z : a *ℤ (b *ℤ x +ℤ k *ℤ h) ≡ pos 0 = ap (λ t. a *ℤ t) e ∙ times_zero a in
+    let z : a *ℤ (b *ℤ x +ℤ k *ℤ h) ≡ pos 0 = ap (λ t. a *ℤ t) e ∙ mul_zero a in
     omega (arith, ints, p, q, d, z)
 
 part : (one : ℕ) (form : List Line) → Distinct (basis_of form) → AllByRecursion (λ l. (l.0 < one) × (pos 0 <ℤ at l.1 l.0)) form → (v : ℕ → ℤ) × IsPart one form v
 part one [] d h = (
   λ j. if j == one then pos 1 else pos 0,
   record {
-    positive = rw (same_test one one refl) (omega (arith, ints));
+    positive = rw (number_test one one refl) (omega (arith, ints));
     outside = λ e k o. rw (other_test e one (λ z. absurd (omega (arith, z)))) refl;
     balances = tt;
   },
@@ -70,7 +71,7 @@ part one (l ∷ form) d h =
       record {
         positive = subst (λ (z : ℤ). pos 0 <ℤ z) (sym (line_other one l r.0 one last)) (product_positive (at l.1 l.0) (r.0 one) h.0.1 r.1.positive);
         outside = λ e k o.
-            line_other one l r.0 e (λ z. o (inl z)) ∙ ap (λ t. at l.1 l.0 *ℤ t) (r.1.outside e k (λ m. o (inr m))) ∙ times_zero (at l.1 l.0);
+            line_other one l r.0 e (λ z. o (inl z)) ∙ ap (λ t. at l.1 l.0 *ℤ t) (r.1.outside e k (λ m. o (inr m))) ∙ mul_zero (at l.1 l.0);
         balances = (
           ap (λ t. at l.1 l.0 *ℤ t +ℤ at l.1 one *ℤ with_line one l r.0 one) (line_here one l r.0 l.0 refl)
               ∙ ap (λ t. at l.1 l.0 *ℤ neg_ℤ (at l.1 one *ℤ r.0 one) +ℤ at l.1 one *ℤ t) (line_other one l r.0 one last)
@@ -94,8 +95,8 @@ pub line_value : (one : ℕ) (form : List Line) (l : Line) (v : ℕ → ℤ) →
 line_value one form l v h o =
     dot_two l.1 v l.0 one h.inside (let q = h.long in omega (arith, q)) (λ i k d e.
     elim (among_or_not i (basis_of form)) as (λ _. at l.1 i *ℤ v i ≡ pos 0) [
-      | inl m ↦ ap (λ t. t *ℤ v i) (h.others i m d) ∙ (*ℤ_comm (pos 0) (v i) ∙ times_zero (v i))
-      | inr m ↦ ap (λ t. at l.1 i *ℤ t) (o i (let q = h.long in smaller i one (omega (arith, k, q)) e) m) ∙ times_zero (at l.1 i)
+      | inl m ↦ ap (λ t. t *ℤ v i) (h.others i m d) ∙ (*ℤ_comm (pos 0) (v i) ∙ mul_zero (v i))
+      | inr m ↦ ap (λ t. at l.1 i *ℤ t) (o i (let q = h.long in smaller i one (omega (arith, k, q)) e) m) ∙ mul_zero (at l.1 i)
     ])
 
 -- each basis has its point

@@ -7,16 +7,17 @@ use Rattle.std.specs.List.{AllByRecursion}
 use Rattle.std.specs.Int.{◌∣◌}
 use Rattle.std.proofs.Math.Nat.{eq-one_of_dvd-one}
 use Rattle.std.proofs.Math.IntN.{*ℤ_comm}
-use Rattle.mm_num.proofs.Ring.{neg_mul}
+use Rattle.mm_num.proofs.Ring.{neg_mul, mul_zero}
 use Rattle.simplex_core.specs.declared.row.LinRow.{LinRow}
 use Rattle.simplex_core.specs.Rows.{dot, row_value, AreWide}
 use Rattle.simplex_core.specs.Form.{at, Among, Distinct, Follows, basis_of, Vanish, IsLine, IsForm}
 use Rattle.simplex_core.specs.Walk.{numbers_from}
 use Rattle.simplex_core.specs.machine.Tableau.{negated, zeros, mark, first_line, first_lines}
-use Rattle.simplex_core.proofs.DotLaws.{length-negated, dot-negated, from, dot-append, times_zero}
+use Rattle.simplex_core.proofs.DotLaws.{length-negated, dot-negated, from, dot-append}
 use Rattle.simplex_core.proofs.ContentLaws.{divides_at}
-use Rattle.simplex_core.proofs.ExchangeLaws.{same_or_not, same_test, other_test}
+use Rattle.simplex_core.proofs.ExchangeLaws.{same_or_not, other_test}
 use mir.Val.{bool_byte}
+use Rattle.mm_num.proofs.TestLaws.{number_test}
 
 pub length-zeros : (m : ℕ) → length (zeros m) ≡ m
 length-zeros zero = refl
@@ -31,7 +32,7 @@ dot-zeros : (m : ℕ) (v : ℕ → ℤ) → dot v (zeros m) ≡ pos 0
 dot-zeros zero v = refl
 dot-zeros (suc m) v =
     let e : dot (λ j. v (suc j)) (zeros m) ≡ pos 0 = dot-zeros m (λ j. v (suc j)) in
-    let z : pos 0 *ℤ v 0 ≡ pos 0 = *ℤ_comm (pos 0) (v 0) ∙ times_zero (v 0) in
+    let z : pos 0 *ℤ v 0 ≡ pos 0 = *ℤ_comm (pos 0) (v 0) ∙ mul_zero (v 0) in
     omega (arith, ints, e, z)
 
 one_times : (a d : ℤ) → d ≡ pos 0 → pos 1 *ℤ a +ℤ d ≡ a
@@ -60,7 +61,7 @@ dot-mark zero i v h = absurd (omega arith)
 dot-mark (suc m) zero v h = let e : dot (λ j. v (suc j)) (zeros m) ≡ pos 0 = dot-zeros m (λ j. v (suc j)) in one_times (v 0) (dot (λ j. v (suc j)) (zeros m)) e
 dot-mark (suc m) (suc i) v h =
     let e : dot (λ j. v (suc j)) (mark m i) ≡ v (suc i) = dot-mark m i (λ j. v (suc j)) (omega arith) in
-    let z : pos 0 *ℤ v 0 ≡ pos 0 = *ℤ_comm (pos 0) (v 0) ∙ times_zero (v 0) in
+    let z : pos 0 *ℤ v 0 ≡ pos 0 = *ℤ_comm (pos 0) (v 0) ∙ mul_zero (v 0) in
     omega (arith, ints, e, z)
 
 -- the lines' variables are the slacks
@@ -183,6 +184,6 @@ drop-mark_all m i k h = drop_all k (mark m i) (let e = length-mark m i in omega 
 -- each mark is whether its place is the one
 pub at-mark : (m i k : ℕ) → k < m → at (mark m i) k ≡ pos (bool_byte (k == i))
 at-mark m i k h = elim (same_or_not k i) as (λ _. at (mark m i) k ≡ pos (bool_byte (k == i))) [
-  | inl e ↦ ap (at (mark m i)) e ∙ at-mark_same m i (omega (arith, h, e)) ∙ ap (λ t. pos (bool_byte t)) (sym (same_test k i e))
+  | inl e ↦ ap (at (mark m i)) e ∙ at-mark_same m i (omega (arith, h, e)) ∙ ap (λ t. pos (bool_byte t)) (sym (number_test k i e))
   | inr d ↦ at-mark_other m i k (λ e. d (sym e)) ∙ ap (λ t. pos (bool_byte t)) (sym (other_test k i d))
 ]

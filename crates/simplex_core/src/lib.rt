@@ -22,6 +22,3 @@ pub use law::{few_pivots, no_return};
 pub use row::LinRow;
 pub use simplex::solve;
 pub use solved::{Pivot, Solved};
-
-#[cfg(test)]
-mod tests;

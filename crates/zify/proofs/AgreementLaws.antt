@@ -1,7 +1,7 @@
 -- Where each variable of an operation has the operation's value, the translation of a term has the term's value.
 use Rattle.std.specs.Prelude.{◌≡◌, ℕ, ◌<◌, nat_lt, ℤ, pos, neg_ℤ, ◌+ℤ◌, ◌-ℤ◌, ◌*ℤ◌, int_le, unsigned_abs, List, [], ◌∷◌, ◌++◌, Bool, true, not, ◌&&◌, ◌||◌, if◌then◌else◌, refl}
 use Rattle.std.specs.List.{AllByRecursion}
-use Rattle.std.proofs.Common.{ap, sym, ◌∙◌, subst, arith}
+use Rattle.std.proofs.Common.{ap, sym, ◌∙◌, subst}
 use Rattle.std.proofs.lemmas.Bool.{and_parts}
 use Rattle.mm_num.specs.Power.{power}
 use Rattle.goal_ast.specs.declared.term.Sort.{Sort}
@@ -40,10 +40,11 @@ use Rattle.zify.specs.Truth.{z_value_of, z_truth_of}
 use Rattle.zify.specs.Operations.{operations as operations_in}
 use Rattle.zify.specs.Operations.{is_plain, has_variable, where_true, operations_level, operations, bool_operations_level, bool_operations, formula_operations_level, formula_operations}
 use Rattle.zify.specs.Translation.{Table, number_of, variable_of, number, plain_call, term_level, term_of, cmp_of, call_form, bool_form_level, bool_form_of, form_level, form_of}
-use Rattle.zify.proofs.ListLaws.{all_split}
 use Rattle.zify.proofs.ValueLaws.{value_lit, value_variable, value_neg, value_add, value_sub, value_mul, value_pow, value_number, truth_true, truth_false, truth_atom, truth_not, truth_and, truth_or, truth_imp, truth_iff}
 use Rattle.zify.proofs.ConditionLaws.{defined, remainder_value}
 use Rattle.zify.proofs.TableLaws.{InTable}
+use Rattle.mm_num.proofs.TestLaws.{is_below}
+use Rattle.mm_num.proofs.ListLaws.{all_split}
 
 -- the translation has the value of the term, at two points
 abbrev pub Agrees : Table → Point → Point → Term → Type 0
@@ -60,9 +61,6 @@ pub record InScope (e : Table) (t : Term) : Type 0 where
   pub operations : AllByRecursion (InTable e) (operations_in t)
   pub named : names_below e.bound t ≡ true
   pub divisors : divisors_fit t ≡ true
-
-is_below : (v n : ℕ) → nat_lt v n ≡ true → v < n
-is_below v n h = grind arith
 
 abbrev TermAgrees : Table → Point → Point → Term → Type 0
 TermAgrees e y x t = InScope e t → Agrees e y x t

@@ -5,9 +5,8 @@ use Rattle.std.specs.Int.{int_max, int_min}
 use Rattle.std.proofs.Common.{ap, sym, ◌∙◌, subst, arith}
 use Rattle.std.proofs.lemmas.Int.{ints}
 use Rattle.std.proofs.lemmas.Bool.{and_parts}
-use Rattle.mm_num.specs.Quotient.{floor_by}
-use Rattle.mm_num.proofs.Ring.{dist, neg_mul}
-use Rattle.mm_num.proofs.QuotientLaws.{floor_below, floor_above}
+use Rattle.mm_num.proofs.Ring.{neg_mul}
+use Rattle.mm_num.proofs.QuotientLaws.{floor_below, floor_above, floor_unique}
 use Rattle.goal_ast.specs.declared.term.Sort.{Sort}
 use Rattle.goal_ast.specs.declared.term.Sort.TheVariants as sorts
 use Rattle.goal_ast.specs.declared.term.Fn1.{Fn1}
@@ -278,25 +277,6 @@ sign_exactly (pos (suc n)) z = sign_up (pos (suc n)) z (positive n)
 sign_exactly (negsuc n) z = sign_down (negsuc n) z (negative n)
 
 -- there is one floor
-apart : (d : ℕ) (a y z : ℤ) → y <ℤ z → (pos d *ℤ z) ≤ℤ a → a <ℤ (pos d *ℤ y +ℤ pos d) → ⊥
-apart d a y z l h k =
-    let m = unsigned_abs (z -ℤ y) in
-    let e : z ≡ y +ℤ pos m = omega (arith, ints) in
-    let f : pos d *ℤ z ≡ pos d *ℤ y +ℤ pos d *ℤ pos m = ap (λ w. pos d *ℤ w) e ∙ dist (pos d) y (pos m) in
-    far d m a (pos d *ℤ y) (omega (arith, ints)) (subst (λ (w : ℤ). w ≤ℤ a) f h) k
-  where
-    far : (d m : ℕ) (a r : ℤ) → 1 ≤ m → (r +ℤ pos d *ℤ pos m) ≤ℤ a → a <ℤ (r +ℤ pos d) → ⊥
-    far d (suc m) a r g h k = omega (arith, ints)
-    far d zero a r g h k = omega arith
-
-neither : (y z : ℤ) → (y <ℤ z → ⊥) → (z <ℤ y → ⊥) → y ≡ z
-neither y z g h = grind (arith, ints)
-
-pub floor_unique : (a z : ℤ) (d : ℕ) → 0 < d → (pos d *ℤ z) ≤ℤ a → a <ℤ (pos d *ℤ z +ℤ pos d) → z ≡ floor_by a d
-floor_unique a z d h low high =
-    let up = apart d a z (floor_by a d) in
-    let down = apart d a (floor_by a d) z in
-    neither z (floor_by a d) (λ l. up l (floor_below a d h) high) (λ l. down l low (floor_above a d h))
 
 quotient_up_is : (a z k r : ℤ) → r ≡ k *ℤ z → (int_le (pos 0) (a -ℤ r) && int_lt (a -ℤ r) k) ≡ true → (r ≤ℤ a) × (a <ℤ (r +ℤ k))
 quotient_up_is a z k r e h = let p = and_parts _ _ h in (low a r p.0, high a r k p.1)

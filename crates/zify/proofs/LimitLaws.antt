@@ -15,9 +15,10 @@ use Rattle.zify.specs.Measure.{greatest_in, greatest_of}
 use Rattle.zify.specs.Operations.{formula_operations, distinct_operations}
 use Rattle.zify.specs.Translation.{Table, condition_of, range_of, ranges_from, form_of, table_of, translated}
 use Rattle.goal_measure.specs.Bounding.{formula_bound}
-use Rattle.zify.proofs.ListLaws.{all_join, all_split, all_map, all_of_map, all_by}
+use Rattle.zify.proofs.ListLaws.{all_map, all_of_map, all_by}
 use Rattle.zify.proofs.TableLaws.{Has, all_has, firsts_has, all_firsts}
 use Rattle.zify.proofs.MeasureLaws.{conditions_in, formula_weighed, measure_range}
+use Rattle.mm_num.proofs.ListLaws.{all_join, all_split}
 
 -- a measure that is the greater one of two, and its limit, which a range's atoms stay below
 pub record Limited (f : Measure → ℕ) (limit : ℕ) : Type 0 where

@@ -2,7 +2,7 @@
 use Rattle.std.specs.Prelude.{◌≡◌, ℕ, ◌+◌, ◌==◌, pos, List, [], ◌∷◌, ◌++◌, map, Bool, true, false, not, ◌||◌, cond, refl, Option, Some, slice_get}
 use Rattle.std.specs.List.{AllByRecursion, list_any, position_or_len}
 use Rattle.std.specs.Option.{option_map_or}
-use Rattle.std.proofs.Common.{ap, sym, ◌∙◌, subst, arith}
+use Rattle.std.proofs.Common.{ap, sym, ◌∙◌, subst}
 use Rattle.std.proofs.lemmas.Option.{same_Some}
 use Rattle.std.proofs.lemmas.Bool.{and_parts, and_from}
 use Rattle.goal_ast.specs.declared.term.Term.{Term}
@@ -16,14 +16,10 @@ use Rattle.zify.specs.declared.shape.Shape.{Shape}
 use Rattle.zify.specs.Operations.{with_new, firsts}
 use Rattle.zify.specs.machine.Walking.{same_shape, shape}
 use Rattle.zify.proofs.TableLaws.{Has, found_at, has_more, new_is, new_keeps}
+use Rattle.mm_num.proofs.TestLaws.{number_test, is_number}
+use Rattle.mm_num.proofs.BoolLaws.{same_tests}
 
 -- ---- tests and places in lists
-
-pub same_test : (p q : Bool) → (p ≡ true → q ≡ true) → (q ≡ true → p ≡ true) → p ≡ q
-same_test true true f g = refl
-same_test true false f g = sym (f refl)
-same_test false true f g = g refl
-same_test false false f g = refl
 
 or_false_left : (a b : Bool) → (a || b) ≡ false → a ≡ false
 or_false_left true b h = h
@@ -108,17 +104,11 @@ new_id ts t = new_is (λ us. id_in ts t ≡ id_in us t) ts t (λ h. refl) (λ h.
 pub id_is : (ts : List Term) (t u : Term) → Has ts t → Has ts u → id_in ts t ≡ id_in ts u → t ≡ u
 id_is ts t u h k e = same_Some t u (sym (found_at t ts h) ∙ ap (λ n. slice_get ts n) e ∙ found_at u ts k)
 
-number_is : (n m : ℕ) → (n == m) ≡ true → n ≡ m
-number_is n m h = grind arith
-
-is_number : (n m : ℕ) → n ≡ m → (n == m) ≡ true
-is_number n m h = grind arith
-
 -- numbers are equal where the terms are
 pub ids_test : (ts : List Term) (t u : Term) → Has ts t → Has ts u → (id_in ts t == id_in ts u) ≡ same_term t u
-ids_test ts t u h k = same_test _ _
-    (λ e. is_same t u (id_is ts t u h k (number_is (id_in ts t) (id_in ts u) e)))
-    (λ e. is_number (id_in ts t) (id_in ts u) (ap (id_in ts) (same_is t u e)))
+ids_test ts t u h k = same_tests _ _
+    (λ e. is_same t u (id_is ts t u h k (is_number (id_in ts t) (id_in ts u) e)))
+    (λ e. number_test (id_in ts t) (id_in ts u) (ap (id_in ts) (same_is t u e)))
 
 pub ids_stay : (ts us : List Term) → Keeps ts us → (vs : List Term) → AllByRecursion (Has ts) vs → map (id_in ts) vs ≡ map (id_in us) vs
 ids_stay ts us f vs h = map_in (Has ts) (id_in ts) (id_in us) (λ v k. (f v k).1) vs h
@@ -177,11 +167,11 @@ shapes_are a b h =
     let p = and_parts _ _ h in
     let q = and_parts _ _ p.1 in
     ap (λ o. shape o a.left a.right) (operator_is a.operator b.operator p.0)
-    ∙ ap (λ n. shape b.operator n a.right) (number_is a.left b.left q.0)
-    ∙ ap (λ n. shape b.operator b.left n) (number_is a.right b.right q.1)
+    ∙ ap (λ n. shape b.operator n a.right) (is_number a.left b.left q.0)
+    ∙ ap (λ n. shape b.operator b.left n) (is_number a.right b.right q.1)
 
 shape_same : (a : Shape) → same_shape a a ≡ true
-shape_same a = and_from _ _ (operator_same a.operator) (and_from _ _ (is_number a.left a.left refl) (is_number a.right a.right refl))
+shape_same a = and_from _ _ (operator_same a.operator) (and_from _ _ (number_test a.left a.left refl) (number_test a.right a.right refl))
 
 -- a node of a term, whose parts a list has
 pub record IsNode (seen : List Term) (d : Term-F Term) (t : Term) : Type 0 where
@@ -193,7 +183,7 @@ opened seen d t n = ap out-Term (sym n.rolls) ∙ out-roll-Term d
 
 -- shapes are equal where the terms are
 pub shape_tests : (seen : List Term) (d : Term-F Term) (t : Term) → IsNode seen d t → (u : Term) → Closed seen u → same_shape (shape_of seen d) (shape_in seen u) ≡ same_term t u
-shape_tests seen d t n u h = same_test _ _
+shape_tests seen d t n u h = same_tests _ _
     (λ e. is_same t u
     (sym n.rolls ∙ ap roll-Term (same_Some d (out-Term u) (sym (node_of_shape seen d n.parts) ∙ ap (node_at seen) (shapes_are (shape_of seen d) (shape_in seen u) e) ∙ node_of_shape seen (out-Term u) h))
     ∙ roll-out-Term u))

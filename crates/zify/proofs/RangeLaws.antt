@@ -14,8 +14,8 @@ use Rattle.zify.specs.declared.term.ZTerm.TheVariants as zterms
 use Rattle.zify.specs.declared.form.ZForm.TheVariants as forms
 use Rattle.zify.specs.Truth.{z_truth_of, HoldsTranslated}
 use Rattle.zify.specs.Translation.{number, range_of, ranges_from}
-use Rattle.zify.proofs.ListLaws.{all_join, all_split}
 use Rattle.zify.proofs.ValueLaws.{value_variable, value_number, truth_atom}
+use Rattle.mm_num.proofs.ListLaws.{all_join, all_split}
 
 lower : (y : Point) (v : ℕ) (k : ℤ) → z_truth_of y (forms.Atom cmps.Ge (zterms.Var v) (number k)) ≡ int_le k (y v)
 lower y v k = truth_atom y cmps.Ge (zterms.Var v) (number k) ∙ both_same (compare cmps.Ge) _ _ _ _ (value_variable y v) (value_number y k)

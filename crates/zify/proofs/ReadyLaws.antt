@@ -24,10 +24,10 @@ use Rattle.goal_ast.specs.Divisors.{divisor_level, divisors_fit, bool_divisor_le
 use Rattle.goal_ast.specs.Equality.{parts_of}
 use Rattle.zify.specs.Operations.{is_plain, has_variable, where_true, operations_level, operations, bool_operations_level, bool_operations, formula_operations_level, formula_operations}
 use Rattle.zify.specs.Translation.{Table}
-use Rattle.zify.proofs.ListLaws.{all_join, all_split}
 use Rattle.zify.proofs.ConditionLaws.{defined}
 use Rattle.zify.proofs.TableLaws.{InTable}
 use Rattle.zify.proofs.AgreementLaws.{InScope, BoolInScope, FormulaInScope, in_scope, pair_scope, three_scope, bool_in_scope, bools_scope, formula_in_scope, formulas_scope}
+use Rattle.mm_num.proofs.ListLaws.{all_join, all_split}
 
 -- a term is an operation, whose operands are in scope
 pub record Ready (e : Table) (t : Term) : Type 0 where

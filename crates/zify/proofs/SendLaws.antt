@@ -1,9 +1,6 @@
 -- Translated goals may go to another thread. Where a bound `Send` of a formula or a goal is left open, these answer it.
-use denote.RattleType.{RattleType}
 use denote.Param.Send.{IsSend, sendable, recorded_send, struct_send}
 use denote.Struct.Declared.{shape}
-use Rattle.sqlite_items.specs.contracts.boxed.Boxed.{the_row as boxed_row, the_field as boxed_field}
-use Rattle.sqlite_items.specs.contracts.items.Items.{the_field as items_field}
 use Rattle.sqlite_items.proofs.boxed.Boxed.TheSendSync as boxed
 use Rattle.sqlite_items.proofs.items.Items.TheSendSync as items
 use Rattle.goal_ast.proofs.formula.Cmp.TheSendSync as cmp
@@ -12,12 +9,7 @@ use Rattle.zify.specs.contracts.form.ZForm.{the_field as form_field, the_row as 
 use Rattle.zify.specs.contracts.goal.ZGoal.{the_row as goal_row, the_type as goal_type, the_field as goal_field}
 use Rattle.zify.proofs.term.ZTerm.TheLaws.TheKnot.{send-ZTerm}
 use Rattle.zify.proofs.form.ZForm.TheLaws.TheKnot.{send-ZForm}
-
-boxed_send : (R : RattleType) → IsSend R → IsSend (boxed_row R)
-boxed_send R s = boxed.the_send R s
-
-boxed_field_send : (R : RattleType) → IsSend R → IsSend (boxed_field R).row
-boxed_field_send R s = search (sendable, boxed_send, s)
+use Rattle.goal_ast.proofs.SendLaws.{boxed_send, boxed_field_send, items_field_send}
 
 pub term_send : IsSend term_field.row
 term_send = send-ZTerm (search sendable) (search sendable) boxed_send
@@ -30,9 +22,6 @@ form_send = send-ZForm cmp.the_field_send (boxed_field_send _ term_row_send) box
 
 form_row_send : IsSend form_row
 form_row_send = search (sendable, form_send)
-
-items_field_send : (R : RattleType) → IsSend R → IsSend (items_field R).row
-items_field_send R s = search (sendable, items.the_send, s)
 
 pub goal_send : IsSend goal_row
 goal_send = recorded_send goal_field.row _ _ goal_type.to_one (struct_send (shape goal_type) (search sendable, (search sendable, (items_field_send _ form_row_send, (form_send, tt)))))

@@ -10,7 +10,9 @@ use Rattle.goal_ast.specs.Equality.{same_term}
 use Rattle.goal_ast.proofs.EqualityLaws.{same_is, same_self}
 use Rattle.zify.specs.Operations.{with_new, firsts}
 use Rattle.zify.specs.Translation.{Table, number_of}
-use Rattle.zify.proofs.ListLaws.{all_join}
+use Rattle.std.proofs.lemmas.Bool.{or_left, or_right}
+use Rattle.mm_num.proofs.TestLaws.{below_test, past_test}
+use Rattle.mm_num.proofs.ListLaws.{all_join}
 
 -- a list has a term
 abbrev pub Has : List Term → Term → Type 0
@@ -39,14 +41,6 @@ has_step P t u any false e p q h = q h
 pub all_has : (P : Term → Type 0) (t : Term) (ts : List Term) → AllByRecursion P ts → Has ts t → P t
 all_has P t [] a h = absurd (cc)
 all_has P t (u ∷ ts) a h = has_step P t u (list_any (same_term t) ts) (same_term t u) refl a.0 (all_has P t ts a.1) h
-
-or_left : (a b : Bool) → a ≡ true → (a || b) ≡ true
-or_left true b h = refl
-or_left false b h = absurd (cc)
-
-or_right : (a b : Bool) → b ≡ true → (a || b) ≡ true
-or_right true b h = refl
-or_right false b h = h
 
 pub has_more : (t : Term) (ts us : List Term) → Has ts t → Has (ts ++ us) t
 has_more t ts us h = list_any-append (same_term t) ts us ∙ or_left _ _ h
@@ -87,12 +81,6 @@ all_firsts P ts (t ∷ us) a b = all_firsts P (with_new ts t) us (all_new P ts t
 
 abbrev pub extended : Table → Point → Point
 extended e x v = if nat_lt v e.bound then x v else option_map_or (value_of x) (slice_get e.operations (v - e.bound)) (pos 0)
-
-below_test : (v n : ℕ) → v < n → nat_lt v n ≡ true
-below_test v n h = grind arith
-
-past_test : (n k : ℕ) → nat_lt (n + k) n ≡ false
-past_test n k = grind arith
 
 back : (n k : ℕ) → (n + k) - n ≡ k
 back n k = omega arith

@@ -21,13 +21,14 @@ use Rattle.zify.specs.declared.term.ZTerm.{ZTerm}
 use Rattle.zify.specs.Truth.{z_value_of, z_truth_of, HoldsTranslated, IsValidTranslated}
 use Rattle.zify.specs.Operations.{formula_operations, distinct_operations}
 use Rattle.zify.specs.Translation.{Table, number_of, variable_of, term_of, condition_level, condition_of, ranges_from, table_of, translated}
-use Rattle.zify.proofs.ListLaws.{all_join, all_split, all_of_map, all_by}
+use Rattle.zify.proofs.ListLaws.{all_of_map, all_by}
 use Rattle.zify.proofs.ValueLaws.{value_variable}
 use Rattle.zify.proofs.ConditionLaws.{meets, condition_tests, defined, meets_exactly}
 use Rattle.zify.proofs.TableLaws.{InTable, all_has, firsts_has, all_firsts, extended, extended_below, extended_at}
 use Rattle.zify.proofs.AgreementLaws.{Agrees, Explains, InScope, FormulaInScope, formula_in_scope, term_agrees, formula_agrees}
 use Rattle.zify.proofs.RangeLaws.{SuitsFrom, ranges_hold, ranges_say}
 use Rattle.zify.proofs.ReadyLaws.{Ready, formula_ready}
+use Rattle.mm_num.proofs.ListLaws.{all_join, all_split}
 
 -- ---- what a condition says
 

@@ -25,6 +25,7 @@ use Rattle.zify.proofs.WalkLaws.{Represents}
 use Rattle.zify.proofs.FormLaws.{Forms, formula_formed}
 use Rattle.zify.proofs.LimitLaws.{weight_exactly, spread_exactly, degree_exactly}
 use Rattle.zify.proofs.TranslationLaws.{law}
+use Rattle.mm_num.proofs.TestLaws.{is_below}
 
 -- ---- ranges
 
@@ -101,17 +102,14 @@ Says (Some fails.Spread) m = (m.weight < 2 ^ 100) × (257 ≤ m.spread)
 Says (Some fails.Degree) m = (m.weight < 2 ^ 100) × (m.spread < 257) × (9 ≤ m.degree)
 Says (Some fails.NoMemory) m = ⊥
 
-below : (n l : ℕ) → nat_lt n l ≡ true → n < l
-below n l h = grind arith
-
 reached : (n l : ℕ) → nat_lt n l ≡ false → l ≤ n
 reached n l h = grind arith
 
 says_by : (m : Measure) (a b c : Bool) → nat_lt m.weight (2 ^ 100) ≡ a → nat_lt m.spread 257 ≡ b → nat_lt m.degree 9 ≡ c
     → Says (if a then (if b then (if c then None else Some fails.Degree) else Some fails.Spread) else Some fails.Weight) m
-says_by m true true true i j k = (below m.weight (2 ^ 100) i, below m.spread 257 j, below m.degree 9 k)
-says_by m true true false i j k = (below m.weight (2 ^ 100) i, below m.spread 257 j, reached m.degree 9 k)
-says_by m true false c i j k = (below m.weight (2 ^ 100) i, reached m.spread 257 j)
+says_by m true true true i j k = (is_below m.weight (2 ^ 100) i, is_below m.spread 257 j, is_below m.degree 9 k)
+says_by m true true false i j k = (is_below m.weight (2 ^ 100) i, is_below m.spread 257 j, reached m.degree 9 k)
+says_by m true false c i j k = (is_below m.weight (2 ^ 100) i, reached m.spread 257 j)
 says_by m false b c i j k = reached m.weight (2 ^ 100) i
 
 says : (m : Measure) → Says (refused m) m
@@ -121,7 +119,7 @@ back_over : (a b l : ℕ) → ((a < l) ↔ (b < l)) → l ≤ a → l ≤ b
 back_over a b l h k = over (nat_lt b l) refl
   where
     over : (t : Bool) → nat_lt b l ≡ t → l ≤ b
-    over true e = let g = h.1 (below b l e) in omega arith
+    over true e = let g = h.1 (is_below b l e) in omega arith
     over false e = reached b l e
 
 says_there : (o : Option ZFail) (m n : Measure) → Lights m n → Says o m → Says o n

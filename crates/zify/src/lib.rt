@@ -25,6 +25,3 @@ pub use form::ZForm;
 pub use goal::ZGoal;
 pub use law::translation;
 pub use term::ZTerm;
-
-#[cfg(test)]
-mod tests;

@@ -5,9 +5,7 @@ use Rattle.simplex_core.specs.machine.Tableau.{line_at}
 use Rattle.simplex_core.proofs.ChoiceLaws.{IsBest, best_skip, best_take, best_end}
 use Rattle.simplex_core.proofs.choice.least_broken.Goals as goal
 use Rattle.simplex_core.proofs.choice.least_broken.Goals.{then-is_broken, else-is_broken}
-
-differ : {P : Type 0} → false ≡ true → P
-differ h = cc
+use Rattle.mm_num.proofs.BoolLaws.{never}
 
 pub loop-place-preserved : goal.loop-place-preserved
 loop-place-preserved c =
@@ -22,7 +20,7 @@ loop-place-preserved c =
           subst (IsBest n rows form (c.loop-place.place + 1)) (sym w.best-is)
           (best_take n rows form c.loop-place.place w.lesser.result c.loop-place.best c.loop-place.invariant broken w.lesser.ensures)
       | else-is_broken w ↦
-          let whole : IsBroken n rows (line_at form c.loop-place.place) → ⊥ = λ b. differ (sym w.if-is_broken.false ∙ c.is_broken.ensures.1 (subst (IsBroken n rows) (sym here) b)) in
+          let whole : IsBroken n rows (line_at form c.loop-place.place) → ⊥ = λ b. never (sym w.if-is_broken.false ∙ c.is_broken.ensures.1 (subst (IsBroken n rows) (sym here) b)) in
           subst (IsBest n rows form (c.loop-place.place + 1)) (sym w.best-is)
           (best_skip n rows form c.loop-place.place c.loop-place.best c.loop-place.invariant whole)
     ]

@@ -7,9 +7,7 @@ use Rattle.simplex_core.specs.Farkas.{IsFarkas}
 use Rattle.simplex_core.specs.machine.Tableau.{turned, pivoted, slacks_of, NoneBroken, line_at, IsLeastAt, IsFirstMender, AreValues}
 use Rattle.simplex_core.proofs.SolveLaws.{IsAlong, along_start, along_next, size_end, turns_end, point_end, farkas_end}
 use Rattle.simplex_core.proofs.simplex.walk.Goals as goal
-
-differ : {P : Type 0} → false ≡ true → P
-differ h = cc
+use Rattle.mm_num.proofs.BoolLaws.{never}
 
 pub bases-init : goal.bases-init
 bases-init c =
@@ -20,7 +18,7 @@ bases-init c =
 pub returns-then-not-is_narrow : goal.returns-then-not-is_narrow
 returns-then-not-is_narrow c =
     size_end c.args.rows.now c.args.width c.args.turns c.bases.lines.items c.bases.pivots.items c.bases.left c.requires.width c.requires.wide c.bases.invariant
-    (λ narrow. differ (sym c.if-not-is_narrow.true ∙ c.is_narrow.ensures.1 (subst IsNarrow (sym c.deref.ensures.value) narrow)))
+    (λ narrow. never (sym c.if-not-is_narrow.true ∙ c.is_narrow.ensures.1 (subst IsNarrow (sym c.deref.ensures.value) narrow)))
 
 pub returns-in_default : goal.returns-in_default
 returns-in_default c =
