@@ -1,13 +1,13 @@
 -- A polynomial is its terms that aren't constant and its constant; content divides the former, and cuts follow.
-use Rattle.std.specs.Prelude.{◌≡◌, ℕ, zero, suc, ◌+◌, ◌*◌, ◌/◌, ◌%◌, ◌<◌, ℤ, pos, negsuc, ◌+ℤ◌, ◌*ℤ◌, ◌≤ℤ◌, ◌<ℤ◌, unsigned_abs, List, [], ◌∷◌, cond, refl}
+use Rattle.std.specs.Prelude.{◌≡◌, ℕ, ◌*◌, ◌%◌, ◌<◌, ℤ, pos, ◌+ℤ◌, ◌*ℤ◌, ◌≤ℤ◌, ◌<ℤ◌, unsigned_abs, List, [], ◌∷◌, cond, refl}
 use Rattle.std.proofs.Common.{ap, sym, ◌∙◌, subst, arith}
 use Rattle.std.specs.Int.{◌∣◌}
 use Rattle.std.proofs.lemmas.Int.{ints, unsigned_abs-mul}
-use Rattle.std.proofs.lemmas.Nat.Gcd.{dvd_trans, dvd_of_mod-eq-zero, mod-eq-zero_of_dvd}
+use Rattle.std.proofs.lemmas.Nat.Gcd.{dvd_trans, dvd_of_mod-eq-zero}
 use Rattle.std.proofs.Math.IntN.{*ℤ_comm}
 use Rattle.mm_num.specs.Quotient.{floor_by}
 use Rattle.mm_num.specs.Divisor.{gcd_of}
-use Rattle.mm_num.proofs.Ring.{dist, assoc}
+use Rattle.mm_num.proofs.Ring.{dist, assoc, positive_factor, zero_factor, mul_zero}
 use Rattle.mm_num.proofs.QuotientLaws.{floor_above}
 use Rattle.mm_num.proofs.FracLaws.{floor_exact}
 use Rattle.mm_num.proofs.DivisorLaws.{gcd_divides}
@@ -15,7 +15,7 @@ use Rattle.mm_poly.specs.declared.term.Term.{Term}
 use Rattle.mm_poly.specs.Mono.{mono_value, is_constant}
 use Rattle.mm_poly.specs.Poly.{value, plus, constant_of, constant_part, without_constant, content, floor_divided}
 pub use Rattle.mm_poly.specs.Poly.{DividesAll}
-use Rattle.mm_poly.proofs.ValueLaws.{value_with, value_plus, value_constant, sum_assoc, sum_swap, mul_zero, one_mul}
+use Rattle.mm_poly.proofs.ValueLaws.{value_with, value_plus, value_constant, sum_assoc, sum_swap, one_mul}
 
 constant_step : (c v k w : ℤ) → w ≡ v +ℤ k → c *ℤ pos 1 +ℤ w ≡ v +ℤ (c +ℤ k)
 constant_step c v k w e = ap (λ z. z +ℤ w) (*ℤ_comm c (pos 1) ∙ one_mul c) ∙ ap (λ z. c +ℤ z) e ∙ sum_swap c v k
@@ -62,12 +62,6 @@ value_divided x g (t ∷ ts) h a =
     (floor_exact t.coeff g h a.0) (value_divided x g ts h a.1)
     ∙ ap (λ v. pos g *ℤ v) (sym (value_with x (floor_by t.coeff g) t.mono (floor_divided g ts)))
 
--- the cut of whole numbers
-pub positive_factor : (g : ℕ) (z : ℤ) → pos 0 <ℤ (pos g *ℤ z) → pos 0 <ℤ z
-positive_factor g (pos zero) h = let z = mul_zero (pos g) in absurd (omega (arith, ints))
-positive_factor g (pos (suc n)) h = omega (arith, ints)
-positive_factor g (negsuc n) h = absurd (omega (arith, ints))
-
 cut_sum : (a b g k s : ℤ) → pos 0 ≤ℤ (a +ℤ k) → k <ℤ (b +ℤ g) → s ≡ a +ℤ b +ℤ g → pos 0 <ℤ s
 cut_sum a b g k s l h e = omega (arith, ints)
 
@@ -98,18 +92,8 @@ pub cut_holds : (x : ℕ → ℤ) (g : ℕ) (p : List Term) → 0 < g → Divide
 cut_holds x g p h a l = subst (λ v. pos 0 ≤ℤ v) (sym (value_cut x g p))
     (cut_number g (value x (floor_divided g (without_constant p))) (constant_part p) h (subst (λ v. pos 0 ≤ℤ v) (value_whole x g p h a) l))
 
-zero_of_product : (g n : ℕ) → 0 < g → g * n ≡ 0 → n ≡ 0
-zero_of_product g zero h e = refl
-zero_of_product g (suc n) h e = absurd (omega arith)
-
 product_mod : (g n : ℕ) → 0 < g → (g * n) % g ≡ 0
 product_mod g n h = grind arith
-
-zero_factor : (g : ℕ) (z : ℤ) → 0 < g → pos g *ℤ z ≡ pos 0 → z ≡ pos 0
-zero_factor g z h e =
-    let p : g * unsigned_abs z ≡ 0 = sym (unsigned_abs-mul (pos g) z) ∙ ap unsigned_abs e in
-    let n : unsigned_abs z ≡ 0 = zero_of_product g (unsigned_abs z) h p in
-    omega (arith, ints)
 
 opposite : (a k : ℤ) → pos 0 ≡ a +ℤ k → unsigned_abs k ≡ unsigned_abs a
 opposite a k e = omega (arith, ints)

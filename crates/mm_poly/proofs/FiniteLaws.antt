@@ -1,13 +1,13 @@
 -- A polynomial is a finite map from monomials to coefficients: those of a multiple and of a product.
 use Rattle.std.specs.Prelude.{◌≡◌, ℕ, ℤ, pos, ◌+ℤ◌, ◌*ℤ◌, List, [], ◌∷◌, refl}
 use Rattle.std.proofs.Common.{ap, sym, ◌∙◌}
-use Rattle.mm_num.proofs.Ring.{dist}
+use Rattle.mm_num.proofs.Ring.{dist, mul_zero}
 use Rattle.mm_poly.specs.declared.term.Term.{Term}
 use Rattle.mm_poly.specs.Mono.{mono_cmp}
 use Rattle.mm_poly.specs.Poly.{coeff_of, IsPoly, scaled, times}
 use Rattle.mm_poly.specs.Product.{total_of, all_products}
 use Rattle.mm_poly.proofs.CaseLaws.{by_cases}
-use Rattle.mm_poly.proofs.ValueLaws.{sum_zero, mul_zero, one_mul}
+use Rattle.mm_poly.proofs.ValueLaws.{sum_zero, one_mul}
 use Rattle.mm_poly.proofs.PolyLaws.{after_scaled, poly_scaled}
 use Rattle.mm_poly.proofs.CoeffLaws.{coeff_first, coeff_with, unique}
 use Rattle.mm_poly.proofs.ProductLaws.{coeff_into, nonzero_of, nonzero_all, times_all}

@@ -1,5 +1,5 @@
 -- Terms in any order, those with the coefficient 0 left out, and the polynomial that they sum to.
-use Rattle.std.specs.Prelude.{◌≡◌, ◌≢◌, ℕ, ◌+◌, ◌*◌, ◌/◌, ◌^◌, ◌<◌, ◌≤◌, ℤ, pos, negsuc, ◌≤ℤ◌, unsigned_abs, List, [], ◌∷◌, not, refl}
+use Rattle.std.specs.Prelude.{◌≡◌, ◌≢◌, ℕ, ◌+◌, ◌*◌, ◌^◌, ◌<◌, ◌≤◌, ℤ, pos, ◌≤ℤ◌, unsigned_abs, List, [], ◌∷◌, not, refl}
 use Rattle.std.proofs.Common.{to_z, of_z, ap, sym, ◌∙◌, subst, arith}
 use Rattle.std.specs.Int.{w128}
 use Rattle.std.proofs.lemmas.Int.{ints}
@@ -17,6 +17,7 @@ use Rattle.mm_poly.proofs.PolyLaws.{poly_plus, poly_scaled}
 use Rattle.mm_poly.proofs.SumLaws.{with_nonzero}
 use Rattle.mm_poly.proofs.ProductLaws.{poly_joined}
 use Rattle.mm_poly.proofs.CutBoundLaws.{poly_divided, norm_divided, spread_divided, degree_divided, norm_parts}
+use Rattle.mm_num.proofs.QuotientLaws.{by_one}
 
 -- a term stays or goes
 pub by_nonzero : (t : Term) (ts : List Term) (P : List Term → Type 0) → (t.coeff ≢ pos 0 → P (t ∷ nonzero_terms ts)) → P (nonzero_terms ts) → P (nonzero_terms (t ∷ ts))
@@ -82,11 +83,6 @@ positive d h = omega (arith, ints)
 
 pub small_as : (a b c d e f g h : ℕ) → a ≡ e → b ≡ f → c ≡ g → d ≡ h → a * b + c * d < 2 ^ 126 → e * f + g * h < 2 ^ 126
 small_as a b c d e f g h i j k l s = subst (λ n. e * f + g * n < 2 ^ 126) l (subst (λ n. e * f + n * d < 2 ^ 126) k (subst (λ n. e * n + c * d < 2 ^ 126) j (subst (λ n. n * b + c * d < 2 ^ 126) i s)))
-
--- a division by 1 changes nothing
-by_one : (c : ℤ) → floor_by c 1 ≡ c
-by_one (pos n) = let e : n / 1 ≡ n = grind arith in ap pos e
-by_one (negsuc n) = let e : n / 1 ≡ n = grind arith in ap negsuc e
 
 pub divided_by_one : (p : List Term) → IsPoly p → floor_divided 1 p ≡ p
 divided_by_one [] a = refl

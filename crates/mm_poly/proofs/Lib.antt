@@ -10,6 +10,7 @@ pub mod MergeSteps
 pub mod MonoLaws
 pub mod TestLaws
 pub mod ScaleSteps
+pub mod OppositeSteps
 pub mod ExponentLaws
 pub mod PartLaws
 pub mod OppositeLaws
@@ -26,6 +27,7 @@ pub mod PointLaws
 pub mod PointSteps
 pub mod FactorSteps
 pub mod JoinLaws
+pub mod InsertionLaws
 pub mod JoinedLaws
 pub mod FiniteLaws
 pub mod LinearLaws

@@ -6,8 +6,9 @@ use Rattle.mm_poly.specs.Mono.{mono_value, mono_cmp}
 use Rattle.mm_poly.specs.Poly.{value, linear_value, with_weight, coeff_of, IsPoly, with_coeff, add_term, plus, scaled, constant_of}
 use Rattle.mm_poly.proofs.OrderLaws.{mono_exact}
 use Rattle.mm_poly.proofs.CaseLaws.{by_cases, by_coeff, by_order}
-use Rattle.mm_poly.proofs.ValueLaws.{zero_mul, mul_zero, zero_sum, sum_zero, sum_assoc, sum_swap, without_term, joined_term, multiple_of_term}
+use Rattle.mm_poly.proofs.ValueLaws.{zero_mul, zero_sum, sum_zero, sum_assoc, sum_swap, without_term, joined_term, multiple_of_term}
 use Rattle.mm_poly.proofs.CoeffLaws.{coeff_after}
+use Rattle.mm_num.proofs.Ring.{mul_zero}
 
 -- a point's value is the one where each monomial counts for its value there
 pub at_point : (x : ℕ → ℤ) (ts : List Term) → value x ts ≡ linear_value (mono_value x) ts

@@ -5,7 +5,7 @@ use Rattle.std.proofs.lemmas.Int.{ints}
 use Rattle.std.proofs.Math.IntN.{*ℤ_comm}
 use Rattle.std.specs.FinMap.{nat_cmp-IsAntisymmetric}
 use Rattle.mm_num.specs.Power.{power}
-use Rattle.mm_num.proofs.Ring.{dist, dist_r, assoc, swap}
+use Rattle.mm_num.proofs.Ring.{dist, dist_r, assoc, swap, mul_zero}
 use Rattle.mm_poly.specs.declared.term.Term.{Term}
 use Rattle.mm_poly.specs.Mono.{mono_value, mono_times, times_factor}
 use Rattle.mm_poly.specs.Poly.{value, term_value, with_coeff, add_term, plus, scaled, times_term, times, constant_of, variable_of}
@@ -15,9 +15,6 @@ use Rattle.mm_poly.proofs.CaseLaws.{by_coeff, by_order, by_factor}
 pub zero_mul : (a : ℤ) → pos 0 *ℤ a ≡ pos 0
 zero_mul (pos n) = omega (arith, ints)
 zero_mul (negsuc n) = omega (arith, ints)
-
-pub mul_zero : (a : ℤ) → a *ℤ pos 0 ≡ pos 0
-mul_zero a = *ℤ_comm a (pos 0) ∙ zero_mul a
 
 pub one_mul : (a : ℤ) → pos 1 *ℤ a ≡ a
 one_mul (pos n) = omega (arith, ints)

@@ -7,7 +7,9 @@
 #![tactic(auto)]
 
 mod fail;
+mod insert;
 mod laws;
+mod limits;
 mod mono;
 mod parts;
 mod point;
@@ -18,9 +20,7 @@ mod term;
 
 pub use fail::PolyFail;
 pub use laws::{coefficients, exponents, linear_values, monomial_order, renaming, values};
+pub use limits::{DEGREE_LIMIT, NORM_LIMIT, SPREAD_LIMIT};
 pub use mono::{Factors, Mono};
 pub use poly::Poly;
 pub use term::Term;
-
-#[cfg(test)]
-mod tests;

@@ -4,10 +4,8 @@ ghost use Rattle.mm_num.specs.Power.{power};
 ghost use Rattle.mm_poly.specs.Poly.{value, term_value, HasPlaces};
 ghost use Rattle.mm_poly.specs.Point.{greatest_magnitude, value_bound, point_of};
 
+use crate::limits::NORM_LIMIT;
 use crate::term::Term;
-
-// A value is computed only where its bound is below this one, 2^126.
-const VALUE_LIMIT: u128 = 1 << 126;
 
 /// Whether each variable is below this number.
 pub fn have_places(terms: &[Term], count: usize) -> bool
@@ -41,7 +39,7 @@ pub fn is_small_multiple(number: u128, base: u128, exponent: u32) -> bool
     let mut multiple = number;
     for _ in 0..exponent {
         match multiple.checked_mul(base) {
-            Some(product) if product < VALUE_LIMIT => multiple = product,
+            Some(product) if product < NORM_LIMIT => multiple = product,
             _ => return false,
         }
     }

@@ -1,4 +1,4 @@
-ghost use Rattle.std.specs.Prelude.{◌≡◌, ℕ, ◌+◌, ◌*◌, ◌^◌, ◌<◌, ◌≤◌, ℤ, pos, ◌≤ℤ◌, unsigned_abs, List, [], not, length, drop, slice_get, Some, IfOk, IfSome, IsSome, IsNone, IsErrOf, IsOk, ◌↔◌, ◌⊎◌, IsTrue};
+ghost use Rattle.std.specs.Prelude.{◌≡◌, ℕ, ◌+◌, ◌*◌, ◌^◌, ◌<◌, ◌≤◌, ℤ, pos, negsuc, ◌≤ℤ◌, unsigned_abs, List, [], not, length, drop, slice_get, Some, IfOk, IfSome, IsSome, IsNone, IsErrOf, IsOk, ◌↔◌, ◌⊎◌, IsTrue};
 ghost use Rattle.std.specs.Bool.{OnTrue};
 ghost use Rattle.std.specs.Ordering.{int_eq};
 ghost use Rattle.mm_num.specs.Small.{IsSmall};
@@ -10,27 +10,20 @@ ghost use Rattle.mm_poly.specs.Room.{SumHasRoom, ProductHasRoom};
 ghost use Rattle.mm_poly.specs.Point.{value_bound, point_of};
 
 use crate::fail::PolyFail;
+use crate::insert::joined_lists;
+use crate::limits::{DEGREE_LIMIT, NORM_LIMIT, SPREAD_LIMIT};
 use crate::mono::Mono;
 use crate::parts::{
     are_opposite, coefficient, constant, order, quotients, renamed_terms, unknowns,
 };
 use crate::point::{greatest_magnitude, have_places, is_small_multiple, value_of};
 use crate::product::{join, product};
-use crate::sum::{combine, copies, merge, multiples};
+use crate::sum::{combine, copies, merge, multiples, opposites};
 use crate::term::Term;
 use mm_num::gcd;
 use std::alloc::{AllocError, Global};
 use std::cmp::Ordering;
 use std::marker::Model;
-
-// Norms are below this one, 2^126.
-const NORM_LIMIT: u128 = 1 << 126;
-
-// A polynomial has at most this many terms.
-const MOST_TERMS: u32 = 65_536;
-
-// The exponents of a term sum to at most this.
-const HIGHEST_DEGREE: u32 = 255;
 
 /// A polynomial: its terms stand in monomial order and no coefficient is 0. The norm is below 2^126, there are at
 /// most 65,536 terms, and the degree is at most 255.
@@ -101,7 +94,7 @@ impl Poly {
         ensures big { IsErrOf result PolyFail.Big → (2 ^ 126 ≤ norm self.now + norm other.now) ⊎ (65536 < spread self.now + spread other.now) }
         ensures fits { IsOk result → (norm self.now + norm other.now < 2 ^ 126) × (spread self.now + spread other.now ≤ 65536) }
     {
-        if self.spread() + other.spread() > MOST_TERMS {
+        if self.spread() + other.spread() > SPREAD_LIMIT {
             return Err(PolyFail::Big);
         }
         if sum_of_magnitudes(&self.terms) + sum_of_magnitudes(&other.terms) >= NORM_LIMIT {
@@ -116,6 +109,15 @@ impl Poly {
         ensures { IfOk result (λ p. p ≡ plus self.now other.now) }
     {
         let terms = merge(alloc, &self.terms, &other.terms)?;
+        Ok(Poly { terms })
+    }
+
+    /// The sum, out of the parts' own terms where one is much longer: then it takes time for each term of the shorter.
+    pub fn into_sum(self, alloc: Global, other: Poly) -> Result<Poly, AllocError>
+        requires { SumHasRoom self other }
+        ensures { IfOk result (λ p. p ≡ plus self other) }
+    {
+        let terms = joined_lists(alloc, self.terms, other.terms)?;
         Ok(Poly { terms })
     }
 
@@ -141,6 +143,15 @@ impl Poly {
         Ok(Poly { terms })
     }
 
+    /// The multiple by -1, which needs no memory.
+    pub fn negated(self) -> Poly
+        ensures { result ≡ scaled (negsuc 0) self }
+    {
+        Poly {
+            terms: opposites(self.terms),
+        }
+    }
+
     /// The product: `Big` where the norms' product is 2^126 or more, the spreads' product is more than 65,536, or
     /// the degrees sum to more than 255.
     pub fn mul(&self, alloc: Global, other: &Poly) -> Result<Poly, PolyFail>
@@ -148,10 +159,10 @@ impl Poly {
         ensures big { IsErrOf result PolyFail.Big → (2 ^ 126 ≤ norm self.now * norm other.now) ⊎ ((65536 < spread self.now * spread other.now) ⊎ (255 < degree self.now + degree other.now)) }
         ensures fits { IsOk result → (norm self.now * norm other.now < 2 ^ 126) × (spread self.now * spread other.now ≤ 65536) × (degree self.now + degree other.now ≤ 255) }
     {
-        if u64::from(self.spread()) * u64::from(other.spread()) > u64::from(MOST_TERMS) {
+        if u64::from(self.spread()) * u64::from(other.spread()) > u64::from(SPREAD_LIMIT) {
             return Err(PolyFail::Big);
         }
-        if self.degree() + other.degree() > HIGHEST_DEGREE {
+        if self.degree() + other.degree() > DEGREE_LIMIT {
             return Err(PolyFail::Big);
         }
         if !is_small_product(
@@ -185,7 +196,7 @@ impl Poly {
         ensures big { IsErrOf result PolyFail.Big → (2 ^ 126 ≤ norm self.now * unsigned_abs times + norm other.now * unsigned_abs other_times) ⊎ (65536 < spread self.now + spread other.now) }
         ensures fits { IsOk result → (norm self.now * unsigned_abs times + norm other.now * unsigned_abs other_times < 2 ^ 126) × (spread self.now + spread other.now ≤ 65536) }
     {
-        if self.spread() + other.spread() > MOST_TERMS {
+        if self.spread() + other.spread() > SPREAD_LIMIT {
             return Err(PolyFail::Big);
         }
         if !is_small_combination(
@@ -207,7 +218,7 @@ impl Poly {
         ensures big { IsErrOf result PolyFail.Big → (2 ^ 126 ≤ norm terms.items) ⊎ (65536 < spread terms.items) }
         ensures fits { IsOk result → (norm terms.items < 2 ^ 126) × (spread terms.items ≤ 65536) }
     {
-        if terms.len() > MOST_TERMS as usize || !is_small(&terms) {
+        if terms.len() > SPREAD_LIMIT as usize || !is_small(&terms) {
             return Err(PolyFail::Big);
         }
         have_monomials(&terms);
@@ -500,7 +511,7 @@ fn common_divisor(terms: &[Term]) -> i128
 fn is_polynomial(terms: &[Term]) -> bool
     ensures { IsTrue result ↔ Fits terms.now }
 {
-    terms.len() <= MOST_TERMS as usize && is_ordered(terms) && is_small(terms)
+    terms.len() <= SPREAD_LIMIT as usize && is_ordered(terms) && is_small(terms)
 }
 
 // Whether the terms stand in monomial order and no coefficient is 0.

@@ -1,4 +1,4 @@
-ghost use Rattle.std.specs.Prelude.{◌≡◌, ◌+◌, ◌*◌, ◌^◌, ◌<◌, [], ◌∷◌, ◌++◌, ◌+ℤ◌, ◌*ℤ◌, unsigned_abs, IfOk, OnOk};
+ghost use Rattle.std.specs.Prelude.{◌≡◌, ◌+◌, ◌*◌, ◌^◌, ◌<◌, [], ◌∷◌, ◌++◌, ◌+ℤ◌, ◌*ℤ◌, negsuc, unsigned_abs, IfOk, OnOk};
 ghost use Rattle.mm_num.specs.Small.{IsSmall};
 ghost use Rattle.mm_poly.specs.Poly.{IsPoly, norm, plus, scaled, with_coeff};
 
@@ -194,4 +194,16 @@ fn push_term(out: &mut Vec<Term>, coeff: i128, mono: &Mono) -> Result<(), AllocE
         })?;
     }
     Ok(())
+}
+
+/// The terms times -1, in their own list.
+pub fn opposites(mut terms: Vec<Term>) -> Vec<Term>
+    requires order { IsPoly terms.items }
+    requires small { norm terms.items < 2 ^ 126 }
+    ensures { result.items ≡ scaled (negsuc 0) terms.items }
+{
+    for n in 0..terms.len() {
+        terms[n].coeff = -terms[n].coeff;
+    }
+    terms
 }
