@@ -1,13 +1,12 @@
 -- A point solves a row exactly where it solves the row's cut.
-use Rattle.std.specs.Prelude.{◌≡◌, ℕ, zero, suc, ◌%◌, ◌<◌, ◌==◌, ℤ, pos, ◌+ℤ◌, ◌*ℤ◌, ◌≤ℤ◌, List, Bool, true, false, cond, unsigned_abs, refl, ◌↔◌}
+use Rattle.std.specs.Prelude.{◌≡◌, ℕ, ◌%◌, ◌<◌, ◌==◌, ℤ, pos, ◌+ℤ◌, ◌*ℤ◌, ◌≤ℤ◌, List, Bool, true, false, cond, unsigned_abs, refl, ◌↔◌}
 use Rattle.std.proofs.Common.{ap, sym, ◌∙◌, subst, arith}
 use Rattle.std.proofs.lemmas.Int.{ints}
 use Rattle.std.proofs.lemmas.Nat.Gcd.{dvd_of_mod-eq-zero}
 use Rattle.mm_num.specs.Quotient.{floor_by}
 use Rattle.mm_num.proofs.QuotientLaws.{floor_below}
 use Rattle.mm_num.proofs.FracLaws.{floor_exact}
-use Rattle.mm_num.proofs.Ring.{dist, product_nonneg}
-use Rattle.mm_poly.proofs.ValueLaws.{mul_zero}
+use Rattle.mm_num.proofs.Ring.{dist, product_nonneg, mul_zero}
 use Rattle.mm_poly.specs.declared.term.Term.{Term}
 use Rattle.mm_poly.specs.Poly.{value, content, without_constant, constant_part, floor_divided, DividesAll}
 use Rattle.mm_poly.proofs.CutLaws.{content_divides, value_cut, value_whole}

@@ -1,11 +1,9 @@
 -- The cut of a row whose content is 0 or 1 is the row.
-use Rattle.std.specs.Prelude.{◌≡◌, ◌≢◌, ℕ, zero, suc, ◌+◌, ◌/◌, ◌%◌, ◌<◌, ◌≤◌, ◌==◌, ℤ, pos, negsuc, ◌≤ℤ◌, List, [], ◌∷◌, Bool, true, false, cond, unsigned_abs, refl, Result, Ok, Err, IfOk}
-use Rattle.std.proofs.Common.{ap, sym, ◌∙◌, subst, arith}
-use Rattle.std.proofs.lemmas.Int.{ints}
+use Rattle.std.specs.Prelude.{◌≡◌, ℕ, zero, suc, ◌%◌, ◌<◌, ◌≤◌, ◌==◌, List, Bool, true, false, cond, unsigned_abs, refl, Result, Ok, Err, IfOk}
+use Rattle.std.proofs.Common.{ap, sym, ◌∙◌, arith}
 use Rattle.std.specs.declared.alloc.AllocError.{AllocError}
-use Rattle.mm_num.specs.Quotient.{floor_by}
 use Rattle.mm_poly.specs.declared.term.Term.{Term}
-use Rattle.mm_poly.specs.Poly.{IsPoly, Fits, with_coeff, content, constant_part, floor_divided}
+use Rattle.mm_poly.specs.Poly.{IsPoly, Fits, content, constant_part, floor_divided}
 use Rattle.mm_poly.proofs.JoinedLaws.{divided_by_one}
 use Rattle.cert_kit.specs.declared.row.Op.{Op}
 use Rattle.cert_kit.specs.declared.row.Op.TheVariants.{Ge, Eq}

@@ -138,12 +138,12 @@ level_close Close-F.Done rows = rule_decides (ends_false rows)
 level_close (Close-F.Split p c d) rows =
     or_decides _ _ true _ _ _ (bound_decides (are_within (own_bounds p) && are_within (below_bounds p)))
     (or_decides _ _ _ _ _ _ (c.1 (with_row rows (at_least_0 p))) (d.1 (with_row rows (at_least_0 (below_0 p)))))
-level_close (Close-F.Enum e f cs) rows =
-    walks_decide (walk e rows) (walk f rows) (meaning e rows) (meaning f rows) (measure e rows) (measure f rows)
+level_close (Close-F.Enum b cs) rows =
+    walks_decide (walk b.lower rows) (walk b.upper rows) (meaning b.lower rows) (meaning b.upper rows) (measure b.lower rows) (measure b.upper rows)
     (range_fault (map first_fault (certs_of cs)) rows)
     (λ o. option_map_or (accepts_range (map accepts (certs_of cs)) rows) o false)
     (λ o. option_map_or (λ (r : Range). all_within r.poly r.low (map is_within (certs_of cs)) rows) o true)
-    (walk_agrees e rows) (walk_agrees f rows) (range_decides cs rows) refl
+    (walk_agrees b.lower rows) (walk_agrees b.upper rows) (range_decides cs rows) refl
 
 after_decides : (v : Result (List PRow) Fault) (o : Option (List PRow)) (w : Bool) (fault : Faulting) (accept within : Accepting)
     → StepsAgree v o w → ((rows : List PRow) → Decides (fault rows) (accept rows) (within rows))

@@ -13,3 +13,10 @@ pub mod NumberingLaws
 pub mod CutBackLaws
 pub mod CutSameLaws
 pub mod CutTwiceLaws
+pub mod LittleEndianLaws
+pub mod CodecLaws
+pub mod KeyLaws
+pub mod SinkLaws
+pub mod FrontLaws
+pub mod RowOrderLaws
+pub mod SolvingLaws

@@ -21,7 +21,7 @@ use Rattle.cert_kit.specs.Row.{is_false}
 use Rattle.cert_kit.specs.Cut.{cut_of}
 use Rattle.cert_kit.specs.Meaning.{meaning, measure, own_bounds, are_within, at_least_0}
 use Rattle.cert_kit.specs.Acceptance.{with_row, step_row, rows_after, ends_false, below_0, below_bounds, Range, range_of, values_of, value_row, Accepting, all_accept, accepts_range, enum_range, accepting_close, accepting_cert, accepts, step_within, steps_within, all_within, within_close, within_cert, is_within, IsGood}
-use Rattle.cert_kit.specs.Making.{Makes, AreGood}
+use Rattle.cert_kit.specs.Making.{ends, Makes, AreGood}
 
 -- steps one after another
 
@@ -161,15 +161,15 @@ range_found e f rows r s m n = rw (m, n) refl
 pub good_enum : (given rows : List PRow) (steps : List Step) (e f : Psatz) (r s : PRow) (found : Range) (cs : List Cert) → Makes given steps rows
     → meaning e rows ≡ Some r → meaning f rows ≡ Some s → range_of r s ≡ Some found → length cs ≡ values_of found
     → (measure e rows).within ≡ true → (measure f rows).within ≡ true → AreGood found.poly found.low cs rows
-    → IsGood given (record { steps = steps; close = Enum e f cs })
+    → IsGood given (record { steps = steps; close = Enum (ends e f) cs })
 good_enum given rows steps e f r s found cs m a b is count v w g =
     let range : enum_range e f rows ≡ Some found = range_found e f rows r s a b ∙ is in
     let counted : (length (map accepts cs) == values_of found) ≡ true = eq-eqb _ _ (length-map cs accepts ∙ count) in
-    good_by given rows steps (Enum e f cs) m
-    (close_accepted (Close-F.Enum e f cs) (Enum e f cs) (rolls-Enum e f cs) rows
+    good_by given rows steps (Enum (ends e f) cs) m
+    (close_accepted (Close-F.Enum (ends e f) cs) (Enum (ends e f) cs) (rolls-Enum (ends e f) cs) rows
     ∙ subst (λ (o : Option Range). option_map_or (accepts_range (map accepts cs) rows) o false ≡ true) (sym range)
     (and_from (length (map accepts cs) == values_of found) (all_accept found.poly found.low (map accepts cs) rows) counted (all_accepted found.poly found.low cs rows g)))
-    (close_within (Close-F.Enum e f cs) (Enum e f cs) (rolls-Enum e f cs) rows
+    (close_within (Close-F.Enum (ends e f) cs) (Enum (ends e f) cs) (rolls-Enum (ends e f) cs) rows
     ∙ and_from ((measure e rows).within && (measure f rows).within) (option_map_or (λ (q : Range). all_within q.poly q.low (map is_within cs) rows) (enum_range e f rows) true)
     (and_from (measure e rows).within (measure f rows).within v w)
     (subst (λ (o : Option Range). option_map_or (λ (q : Range). all_within q.poly q.low (map is_within cs) rows) o true ≡ true) (sym range)

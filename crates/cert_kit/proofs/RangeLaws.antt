@@ -2,7 +2,7 @@
 use Rattle.std.specs.Prelude.{◌≡◌, ℕ, ℤ, pos, negsuc, neg_ℤ, ◌+ℤ◌, ◌-ℤ◌, ◌*ℤ◌, ◌≤ℤ◌, ◌<ℤ◌, List, [], ◌∷◌, Bool, true, false, cond, refl, Some, None}
 use Rattle.std.proofs.Common.{ap, sym, ◌∙◌, subst, arith}
 use Rattle.std.proofs.lemmas.Int.{ints}
-use Rattle.std.specs.Ordering.{int_eq, is_eq}
+use Rattle.std.specs.Ordering.{is_eq}
 use Rattle.std.specs.declared.cmp.Ordering.{Ordering}
 use Rattle.std.specs.declared.cmp.Ordering.TheVariants.{Less, Equal, Greater}
 use Rattle.std.proofs.lemmas.Option.{same_Some}
@@ -17,9 +17,7 @@ use Rattle.mm_poly.proofs.CutLaws.{value_parts}
 use Rattle.cert_kit.specs.Row.{Holds}
 use Rattle.mm_poly.specs.Poly.{is_opposite}
 use Rattle.cert_kit.specs.Acceptance.{Range, range_between, values_of, not_below_0, value_row, below_0}
-
-int_is : (a b : ℤ) → int_eq a b ≡ true → a ≡ b
-int_is a b h = grind (arith, ints)
+use Rattle.mm_num.proofs.TestLaws.{is_int}
 
 equal_is : (o : Ordering) → is_eq o ≡ true → o ≡ Equal
 equal_is Equal h = refl
@@ -35,7 +33,7 @@ value_opposite x (t ∷ ts) (u ∷ us) h =
     let first = and_parts _ _ h in
     let second = and_parts _ _ first.1 in
     let m : t.mono ≡ u.mono = mono_exact t.mono u.mono (equal_is _ first.0) in
-    let c : u.coeff ≡ neg_ℤ t.coeff = int_is u.coeff (neg_ℤ t.coeff) second.0 in
+    let c : u.coeff ≡ neg_ℤ t.coeff = is_int u.coeff (neg_ℤ t.coeff) second.0 in
     let rest : value x us ≡ neg_ℤ (value x ts) = value_opposite x ts us second.1 in
     let term : u.coeff *ℤ mono_value x u.mono ≡ neg_ℤ (t.coeff *ℤ mono_value x t.mono) =
     ap (λ k. k *ℤ mono_value x u.mono) c ∙ ap (λ k. neg_ℤ t.coeff *ℤ mono_value x k) (sym m) ∙ neg_mul t.coeff (mono_value x t.mono) in

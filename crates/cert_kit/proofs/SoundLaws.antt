@@ -29,6 +29,7 @@ use Rattle.cert_kit.proofs.RowLaws.{false_constant}
 use Rattle.cert_kit.proofs.MeaningLaws.{row_holds, meaning_holds}
 use Rattle.cert_kit.proofs.RangeLaws.{IsIn, in_between, count_reaches, value_row_holds, below_holds}
 use Rattle.cert_kit.proofs.CutLaws.{cut_holds, cut_of_least}
+use Rattle.mm_num.proofs.TestLaws.{is_number}
 
 -- one more row that holds
 pub solves_more : (x : ℕ → ℤ) (rows : List PRow) (r : PRow) → Solves x rows → Holds x r → Solves x (with_row rows r)
@@ -113,9 +114,6 @@ in_range x Ge Ge r s found h k p q e = in_between x (cut_of r).poly (cut_of s).p
 in_range x Ge Eq r s found h k p q e = absurd (cc)
 in_range x Eq o r s found h k p q e = absurd (cc)
 
-same_count : (m n : ℕ) → (m == n) ≡ true → m ≡ n
-same_count m n h = grind arith
-
 enum_sound : (e f : Psatz) (cs : List SoundCert) (rows : List PRow)
     → option_map_or (accepts_range (map accepts (map (λ c. c.0) cs)) rows) (enum_range e f rows) false ≡ true → HasNoSolution rows
 enum_sound e f cs rows h x s =
@@ -126,7 +124,7 @@ enum_sound e f cs rows h x s =
     let within : IsIn (value x b.0.poly) b.0 =
     in_range x m.0.op n.0.op m.0 n.0 b.0 (meaning_holds e rows x m.0 s m.1) (meaning_holds f rows x n.0 s n.1) refl refl n.2 in
     let count : length cs ≡ values_of b.0 =
-    sym (length-map (map (λ c. c.0) cs) accepts ∙ length-map cs (λ c. c.0)) ∙ same_count _ _ t.0 in
+    sym (length-map (map (λ c. c.0) cs) accepts ∙ length-map cs (λ c. c.0)) ∙ is_number _ _ t.0 in
     members_sound cs b.0.poly b.0.low rows x t.1 s within.least
     (subst (λ (k : ℕ). value x b.0.poly <ℤ (b.0.low +ℤ pos k)) (sym count) (count_reaches b.0 (value x b.0.poly) within))
 
@@ -137,7 +135,7 @@ level_close Close-F.Done rows h = done_sound rows h
 level_close (Close-F.Split p c d) rows h =
     let b = and_parts _ _ h in
     split_sound rows p (c.1 (with_row rows (at_least_0 p)) b.0) (d.1 (with_row rows (at_least_0 (below_0 p))) b.1)
-level_close (Close-F.Enum e f cs) rows h = enum_sound e f cs rows h
+level_close (Close-F.Enum b cs) rows h = enum_sound b.lower b.upper cs rows h
 
 level_cert : (y : Cert-F SoundClose SoundCert) (rows : List PRow)
     → accepting_cert (map-Cert Close Cert Accepting Accepting accepts_close accepts (map-Cert SoundClose SoundCert Close Cert (λ c. c.0) (λ c. c.0) y)) rows ≡ true

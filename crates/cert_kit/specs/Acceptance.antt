@@ -96,7 +96,7 @@ enum_range e f rows = do
 abbrev pub accepting_close : Close-F Accepting Accepting → Accepting
 accepting_close Close-F.Done rows = ends_false rows
 accepting_close (Close-F.Split p c d) rows = c (with_row rows (at_least_0 p)) && d (with_row rows (at_least_0 (below_0 p)))
-accepting_close (Close-F.Enum e f cs) rows = option_map_or (accepts_range cs rows) (enum_range e f rows) false
+accepting_close (Close-F.Enum b cs) rows = option_map_or (accepts_range cs rows) (enum_range b.lower b.upper rows) false
 
 abbrev pub accepting_cert : Cert-F Accepting Accepting → Accepting
 accepting_cert c rows = option_map_or c.close (rows_after c.steps rows) false
@@ -126,8 +126,8 @@ abbrev pub within_close : Close-F Accepting Accepting → Accepting
 within_close Close-F.Done rows = true
 within_close (Close-F.Split p c d) rows = (are_within (own_bounds p) && are_within (below_bounds p))
     && (c (with_row rows (at_least_0 p)) && d (with_row rows (at_least_0 (below_0 p))))
-within_close (Close-F.Enum e f cs) rows = ((measure e rows).within && (measure f rows).within)
-    && option_map_or (λ (r : Range). all_within r.poly r.low cs rows) (enum_range e f rows) true
+within_close (Close-F.Enum b cs) rows = ((measure b.lower rows).within && (measure b.upper rows).within)
+    && option_map_or (λ (r : Range). all_within r.poly r.low cs rows) (enum_range b.lower b.upper rows) true
 
 abbrev pub within_cert : Cert-F Accepting Accepting → Accepting
 within_cert c rows = steps_within c.steps rows && option_map_or c.close (rows_after c.steps rows) true

@@ -38,7 +38,7 @@ deepest (n ∷ ns) = max n (deepest ns)
 abbrev pub close_level : Close-F ℕ ℕ → ℕ
 close_level Close-F.Done = 0
 close_level (Close-F.Split p c d) = max c d + 1
-close_level (Close-F.Enum e f cs) = max (max (psatz_depth e) (psatz_depth f)) (deepest cs) + 1
+close_level (Close-F.Enum b cs) = max (max (psatz_depth b.lower) (psatz_depth b.upper)) (deepest cs) + 1
 
 abbrev pub cert_level : Cert-F ℕ ℕ → ℕ
 cert_level c = max (steps_depth c.steps) c.close
@@ -82,7 +82,7 @@ all_in_range (b ∷ bs) = b && all_in_range bs
 abbrev pub close_in_range : Close-F Bool Bool → Bool
 close_in_range Close-F.Done = true
 close_in_range (Close-F.Split p c d) = c && d
-close_in_range (Close-F.Enum e f cs) = has_constants_in_range e && (has_constants_in_range f && all_in_range cs)
+close_in_range (Close-F.Enum b cs) = has_constants_in_range b.lower && (has_constants_in_range b.upper && all_in_range cs)
 
 abbrev pub cert_in_range : Cert-F Bool Bool → Bool
 cert_in_range c = steps_in_range c.steps && c.close

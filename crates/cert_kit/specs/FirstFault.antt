@@ -108,7 +108,7 @@ abbrev pub fault_close : Close-F Faulting Faulting → Faulting
 fault_close Close-F.Done rows = unless (ends_false rows) Rule
 fault_close (Close-F.Split p c d) rows = or_else (unless (are_within (own_bounds p) && are_within (below_bounds p)) Bound)
     (or_else (c (with_row rows (at_least_0 p))) (d (with_row rows (at_least_0 (below_0 p)))))
-fault_close (Close-F.Enum e f cs) rows = after_walk (walk e rows) (λ a. after_walk (walk f rows) (λ b. range_fault cs rows (range_of a.row b.row)))
+fault_close (Close-F.Enum b cs) rows = after_walk (walk b.lower rows) (λ l. after_walk (walk b.upper rows) (λ u. range_fault cs rows (range_of l.row u.row)))
 
 abbrev pub fault_cert : Cert-F Faulting Faulting → Faulting
 fault_cert c rows = after_walk (steps_walk c.steps rows) c.close

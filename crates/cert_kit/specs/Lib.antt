@@ -1,7 +1,11 @@
 pub mod Row
+pub mod Order
 pub mod Cut
 pub mod Meaning
 pub mod Acceptance
 pub mod FirstFault
 pub mod Depth
 pub mod Making
+pub mod Codec
+pub mod Bytes
+pub mod machine

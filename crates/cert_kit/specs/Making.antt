@@ -6,9 +6,14 @@ use Rattle.cert_kit.specs.declared.cert.Psatz.{Psatz}
 use Rattle.cert_kit.specs.declared.cert.Psatz.TheOpen.{Psatz-F}
 use Rattle.cert_kit.specs.declared.cert.Psatz.TheVariants.{Hyp, Square, MulPoly, Mul, Add, Const, Zero}
 use Rattle.cert_kit.specs.declared.cert.Psatz.TheFolds.{fold-Psatz}
+use Rattle.cert_kit.specs.declared.cert.Ends.{Ends}
 use Rattle.cert_kit.specs.declared.cert.Step.{Step}
 use Rattle.cert_kit.specs.declared.cert.Cert.{Cert}
 use Rattle.cert_kit.specs.Acceptance.{with_row, rows_after, steps_within, value_row, IsGood}
+
+-- the two expressions of an enumeration
+abbrev pub ends : Psatz → Psatz → Ends
+ends e f = record { lower = e; upper = f }
 
 -- the steps make these rows of the given ones, each node within its bounds
 pub record Makes (given : List PRow) (steps : List Step) (rows : List PRow) : Type 0 where

@@ -1,6 +1,6 @@
 -- Rows, clauses and their solutions (the Micromega chapter of the Rocq manual; Besson 2006, section 2).
-use Rattle.std.specs.Prelude.{◌≡◌, ℕ, ℤ, pos, ◌≤ℤ◌, List, [], ◌∷◌, Bool, true, false, not, ◌&&◌, int_lt}
-use Rattle.std.specs.List.{AllByRecursion}
+use Rattle.std.specs.Prelude.{◌≡◌, ℕ, ℤ, pos, ◌≤ℤ◌, List, [], ◌∷◌, Bool, true, false, not, ◌&&◌, int_lt, int_le}
+use Rattle.std.specs.List.{AllByRecursion, list_all}
 use Rattle.std.specs.Ordering.{int_eq}
 use Rattle.mm_poly.specs.declared.term.Term.{Term}
 use Rattle.mm_poly.specs.Poly.{value, constant_part, without_constant}
@@ -20,6 +20,17 @@ Holds x r = Compares r.op (value x r.poly)
 -- the point solves a list of rows
 abbrev pub Solves : (ℕ → ℤ) → List PRow → Type 0
 Solves x rows = AllByRecursion (Holds x) rows
+
+-- the same as tests
+abbrev pub compares_0 : Op → ℤ → Bool
+compares_0 Ge v = int_le (pos 0) v
+compares_0 Eq v = int_eq v (pos 0)
+
+abbrev pub row_holds : (ℕ → ℤ) → PRow → Bool
+row_holds x r = compares_0 r.op (value x r.poly)
+
+abbrev pub all_hold : (ℕ → ℤ) → List PRow → Bool
+all_hold x rows = list_all (row_holds x) rows
 
 abbrev pub HasNoSolution : List PRow → Type 0
 HasNoSolution rows = (x : ℕ → ℤ) → Solves x rows → ⊥

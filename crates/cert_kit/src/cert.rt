@@ -34,6 +34,15 @@ pub enum Step {
     Cut(Psatz),
 }
 
+/// The two expressions of an enumeration.
+#[derive(Debug, Drop)]
+pub struct Ends {
+    /// It gives the least value.
+    pub lower: Psatz,
+    /// It gives the greatest value.
+    pub upper: Psatz,
+}
+
 /// Steps over the rows so far, and how they end.
 #[derive(Debug, Drop)]
 #[cycle(cert)]
@@ -51,10 +60,20 @@ pub enum Close {
     /// The polynomial is at least 0, or its negation less 1 is.
     Split(Poly, Boxed<Cert>, Boxed<Cert>),
     /// A polynomial lies between the bounds that two expressions give; a certificate for each value.
-    Enum(Psatz, Psatz, Items<Cert>),
+    Enum(Boxed<Ends>, Items<Cert>),
 }
 
 impl Cert {
+    /// Whether these parts make a certificate: at most 4,096 deep, and each constant at least 1 and small.
+    pub fn can_make(steps: &[Step], close: &Close) -> bool
+        ensures { IsTrue result ↔ MakesCert steps.now close.now }
+    {
+        depth_of_steps(steps) <= DEEPEST
+            && depth_of_close(close) <= DEEPEST
+            && are_steps_in_range(steps)
+            && is_close_in_range(close)
+    }
+
     /// A certificate of these parts. They are handed back where the certificate would be more than 4,096 deep, or
     /// a constant is below 1 or not small.
     pub fn make(steps: Vec<Step>, close: Close) -> Result<Cert, (Vec<Step>, Close)>
@@ -62,7 +81,7 @@ impl Cert {
         ensures makes { IsOk result ↔ MakesCert steps.items close }
         ensures parts { IfErr result (λ p. (p.0.items ≡ steps.items) × (p.1 ≡ close)) }
     {
-        if can_make(&steps, &close) {
+        if Cert::can_make(&steps, &close) {
             Ok(Cert {
                 steps: Items::from_vec(steps),
                 close,
@@ -75,12 +94,3 @@ impl Cert {
 
 // A certificate is at most this deep.
 const DEEPEST: u32 = 4096;
-
-fn can_make(steps: &[Step], close: &Close) -> bool
-    ensures { IsTrue result ↔ MakesCert steps.now close.now }
-{
-    depth_of_steps(steps) <= DEEPEST
-        && depth_of_close(close) <= DEEPEST
-        && are_steps_in_range(steps)
-        && is_close_in_range(close)
-}

@@ -58,9 +58,9 @@ pub(crate) fn is_close_in_range(close: &Close) -> bool
         Close::Split(_, first, second) => {
             is_cert_in_range(first.get()) && is_cert_in_range(second.get())
         }
-        Close::Enum(lower, upper, members) => {
-            expression_in_range(lower)
-                && expression_in_range(upper)
+        Close::Enum(ends, members) => {
+            expression_in_range(&ends.get().lower)
+                && expression_in_range(&ends.get().upper)
                 && are_certs_in_range(members.as_slice())
         }
     }

@@ -1,6 +1,6 @@
 ghost use Rattle.std.specs.Prelude.{◌≡◌, IfOk};
 
-use crate::cert::{Cert, Close, Psatz, Step};
+use crate::cert::{Cert, Close, Ends, Psatz, Step};
 use crate::row::{Clause, PRow};
 use mm_poly::Poly;
 use sqlite_items::{Boxed, Items};
@@ -117,12 +117,20 @@ fn boxed_cert(alloc: Global, cert: &Cert) -> Result<Boxed<Cert>, AllocError>
             let close = Close::Split(poly.copy(alloc)?, first, second);
             with_steps(alloc, &cert.steps, close)
         }
-        Close::Enum(lower, upper, members) => {
+        Close::Enum(ends, members) => {
             let members = copied_members(alloc, members.as_slice())?;
-            let close = Close::Enum(lower.copy(alloc)?, upper.copy(alloc)?, members);
+            let close = Close::Enum(boxed_ends(alloc, ends.get())?, members);
             with_steps(alloc, &cert.steps, close)
         }
     }
+}
+
+fn boxed_ends(alloc: Global, ends: &Ends) -> Result<Boxed<Ends>, AllocError>
+    ensures { IfOk result (λ copied. copied ≡ ends.now) }
+{
+    let lower = ends.lower.copy(alloc)?;
+    let upper = ends.upper.copy(alloc)?;
+    Boxed::new(alloc, Ends { lower, upper })
 }
 
 #[cycle(copying)]

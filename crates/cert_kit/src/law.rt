@@ -1,7 +1,7 @@
-ghost use Rattle.std.specs.Prelude.{◌≡◌, ◌↔◌, List, true, false, Some, None};
+ghost use Rattle.std.specs.Prelude.{◌≡◌, ◌↔◌, ℕ, ℤ, List, true, false, Some, None};
 ghost use Rattle.cert_kit.specs.declared.row.PRow.{PRow};
 ghost use Rattle.cert_kit.specs.declared.cert.Cert.{Cert as Certificate};
-ghost use Rattle.cert_kit.specs.Row.{HasNoSolution};
+ghost use Rattle.cert_kit.specs.Row.{Holds, Solves, row_holds, all_hold, HasNoSolution};
 ghost use Rattle.cert_kit.specs.Acceptance.{accepts, is_within, IsGood};
 ghost use Rattle.cert_kit.specs.FirstFault.{first_fault};
 
@@ -21,4 +21,10 @@ pub fn faultless()
     ensures none { (c : Certificate) (rows : List PRow) → (first_fault c rows ≡ None) ↔ IsGood rows c }
     ensures rule { (c : Certificate) (rows : List PRow) → first_fault c rows ≡ Some Fault.Rule → accepts c rows ≡ false }
     ensures bound { (c : Certificate) (rows : List PRow) → first_fault c rows ≡ Some Fault.Bound → is_within c rows ≡ false }
+{}
+
+/// The tests of rows at a point are true exactly where the rows hold there.
+pub fn solutions()
+    ensures row { (x : ℕ → ℤ) (r : PRow) → (row_holds x r ≡ true) ↔ Holds x r }
+    ensures rows { (x : ℕ → ℤ) (rows : List PRow) → (all_hold x rows ≡ true) ↔ Solves x rows }
 {}

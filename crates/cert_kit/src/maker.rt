@@ -18,7 +18,7 @@ ghost use Rattle.cert_kit.specs.Row.{Holds, is_false};
 ghost use Rattle.cert_kit.specs.Cut.{cut_of};
 ghost use Rattle.cert_kit.specs.Meaning.{meaning, measure, measure_of, own_bounds, no_bounds, product_bounds, sum_bounds, constant_bounds, are_within, product_row, sum_row, multiple_row, constant_row, at_least_0, equal_to_0};
 ghost use Rattle.cert_kit.specs.Acceptance.{with_row, ends_false, below_0, below_bounds, Range, range_of, values_of, IsGood};
-ghost use Rattle.cert_kit.specs.Making.{Makes, AreGood, numbers_of, renumbered};
+ghost use Rattle.cert_kit.specs.Making.{ends, Makes, AreGood, numbers_of, renumbered};
 
 /// What each form of expression means.
 pub fn meanings()
@@ -61,7 +61,7 @@ pub fn closes_are_good()
     ensures enumeration { (given rows : List PRow) (steps : List AStep) (e f : Expression) (r s : PRow) (found : Range) (cs : List Certificate) → Makes given steps rows
         → meaning e rows ≡ Some r → meaning f rows ≡ Some s → range_of r s ≡ Some found → length cs ≡ values_of found
         → (measure e rows).within ≡ true → (measure f rows).within ≡ true → AreGood found.poly found.low cs rows
-        → IsGood given (record { steps = steps; close = Enum e f cs }) }
+        → IsGood given (record { steps = steps; close = Enum (ends e f) cs }) }
     ensures after { (given rows : List PRow) (first steps : List AStep) (k : AClose) → Makes given first rows → IsGood rows (record { steps = steps; close = k })
         → IsGood given (record { steps = first ++ steps; close = k }) }
 {}

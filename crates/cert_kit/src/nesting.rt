@@ -1,7 +1,7 @@
 ghost use Rattle.std.specs.Prelude.{◌≡◌, ◌^◌, ◌+◌, ◌-◌, min, max, map};
 ghost use Rattle.cert_kit.specs.Depth.{psatz_depth, step_depth, steps_depth, deepest, close_depth, cert_depth};
 
-use crate::cert::{Cert, Close, Psatz, Step};
+use crate::cert::{Cert, Close, Ends, Psatz, Step};
 
 /// The depth of a certificate: the greatest of its expressions' and its close's. A depth of more than `u32::MAX`
 /// is given as that.
@@ -27,11 +27,16 @@ pub(crate) fn depth_of_close(close: &Close) -> u32
         Close::Split(_, first, second) => {
             one_deeper(depth_of_cert(first.get()), depth_of_cert(second.get()))
         }
-        Close::Enum(lower, upper, members) => {
-            let bounds = depth_of_expression(lower).max(depth_of_expression(upper));
-            one_deeper(bounds, deepest_of(members.as_slice()))
+        Close::Enum(ends, members) => {
+            one_deeper(depth_of_ends(ends.get()), deepest_of(members.as_slice()))
         }
     }
+}
+
+fn depth_of_ends(ends: &Ends) -> u32
+    ensures { result ≡ min (max (psatz_depth ends.now.lower) (psatz_depth ends.now.upper)) (2 ^ 32 - 1) }
+{
+    depth_of_expression(&ends.lower).max(depth_of_expression(&ends.upper))
 }
 
 #[cycle(depth)]

@@ -1,0 +1,8 @@
+use Rattle.std.proofs.Common.{take}
+use Rattle.std.specs.List.{AllByRecursion}
+use Rattle.mm_poly.specs.Poly.{Fits}
+use Rattle.cert_kit.specs.declared.row.PRow.{PRow}
+use Rattle.cert_kit.proofs.key.have_bounds.Given as goal
+
+abbrev pub invariant-loop-row : goal.invariant-loop-row
+invariant-loop-row l = AllByRecursion (λ (r : PRow). Fits r.poly) (take l.row-index l.rows)
