@@ -1,5 +1,5 @@
 -- The negation of a polynomial less 1 is within the limits where its bounds are.
-use Rattle.std.specs.Prelude.{◌≡◌, ℕ, ◌+◌, ◌<◌, ◌≤◌, ◌^◌, negsuc, List, true, nat_lt, nat_le}
+use Rattle.std.specs.Prelude.{◌≡◌, ℕ, ◌+◌, ◌<◌, ◌≤◌, ◌^◌, negsuc, List, true, nat_le}
 use Rattle.std.proofs.Common.{arith}
 use Rattle.std.proofs.lemmas.Bool.Decides.{nat_tests}
 use Rattle.std.proofs.lemmas.Bool.{and_parts}
@@ -9,15 +9,13 @@ use Rattle.mm_poly.proofs.BoundLaws.{norm_scaled, spread_scaled}
 use Rattle.cert_kit.specs.Meaning.{are_within}
 use Rattle.cert_kit.specs.Acceptance.{below_bounds}
 use Rattle.mm_poly.specs.Room.{SumHasRoom}
-
-less : (m n : ℕ) → nat_lt m n ≡ true → m < n
-less m n h = grind (arith, nat_tests)
+use Rattle.mm_num.proofs.TestLaws.{is_below}
 
 at_most : (m n : ℕ) → nat_le m n ≡ true → m ≤ n
 at_most m n h = grind (arith, nat_tests)
 
 pub below_norm : (p : List Term) → are_within (below_bounds p) ≡ true → norm p + 1 < 2 ^ 126
-below_norm p h = less _ _ (and_parts _ _ h).0
+below_norm p h = is_below _ _ (and_parts _ _ h).0
 
 below_spread : (p : List Term) → are_within (below_bounds p) ≡ true → spread p + 1 ≤ 65536
 below_spread p h = at_most _ _ (and_parts _ _ (and_parts _ _ h).1).0

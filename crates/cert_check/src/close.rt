@@ -45,8 +45,9 @@ fn check_close(alloc: Global, rows: &mut Rows<'_>, close: &Close) -> Result<(), 
             rows.truncate(before);
             Ok(())
         }
-        Close::Enum(lower, upper, members) => {
-            let interval = interval_of(alloc, rows, lower, upper)?;
+        Close::Enum(ends, members) => {
+            let ends = ends.get();
+            let interval = interval_of(alloc, rows, &ends.lower, &ends.upper)?;
             check_members(alloc, rows, interval.get(), members.as_slice())
         }
     }

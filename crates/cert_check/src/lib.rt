@@ -16,6 +16,3 @@ mod step;
 mod walk;
 
 pub use checking::{Verdict, check};
-
-#[cfg(test)]
-mod tests;

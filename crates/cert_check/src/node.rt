@@ -82,20 +82,17 @@ pub fn product_node(alloc: Global, first: &Node, second: &Node) -> Result<Boxed<
     Ok(Boxed::new(alloc, size.node(row))?)
 }
 
-/// The sum of two parts.
-pub fn sum_node(alloc: Global, first: &Node, second: &Node) -> Result<Boxed<Node>, CheckFail>
-    requires first { CoversRow first.now }
-    requires second { CoversRow second.now }
-    ensures gives { Gives result (tested (sum_row first.now.row second.now.row) (sum_bounds (bounds_of first.now) (bounds_of second.now))) }
+/// The sum of two parts, made of their own terms.
+pub fn sum_node(alloc: Global, first: Node, second: Node) -> Result<Boxed<Node>, CheckFail>
+    requires first { CoversRow first }
+    requires second { CoversRow second }
+    ensures gives { Gives result (tested (sum_row first.row second.row) (sum_bounds (bounds_of first) (bounds_of second))) }
     ensures covers { IfOk result CoversRow }
 {
-    let size = Size::of_node(first).plus(&Size::of_node(second))?;
-    let poly = first.row.poly.sum(alloc, &second.row.poly)?;
-    let row = PRow {
-        poly,
-        op: op_of_sum(first.row.op, second.row.op),
-    };
-    Ok(Boxed::new(alloc, size.node(row))?)
+    let size = Size::of_node(&first).plus(&Size::of_node(&second))?;
+    let op = op_of_sum(first.row.op, second.row.op);
+    let poly = first.row.poly.into_sum(alloc, second.row.poly)?;
+    Ok(Boxed::new(alloc, size.node(PRow { poly, op }))?)
 }
 
 /// A constant of at least 1 is at least 0.

@@ -6,17 +6,8 @@ ghost use Rattle.cert_check.specs.Checking.{Gives, within};
 
 use crate::fail::CheckFail;
 use cert_kit::{Fault, Node, PRow};
-use mm_poly::Poly;
+use mm_poly::{DEGREE_LIMIT, NORM_LIMIT, Poly, SPREAD_LIMIT};
 use std::marker::Model;
-
-// The norm that bounds stay below.
-const NORM_LIMIT: u128 = 1 << 126;
-
-// The greatest spread.
-const MOST_TERMS: u64 = 65_536;
-
-// The greatest degree.
-const HIGHEST_DEGREE: u32 = 255;
 
 /// Bounds on the norm, the spread and the degree of a row.
 #[derive(Drop)]
@@ -121,7 +112,10 @@ impl Size {
     pub fn tested(self) -> Result<Size, CheckFail>
         ensures { Gives result (within self) }
     {
-        if self.norm < NORM_LIMIT && self.spread <= MOST_TERMS && self.degree <= HIGHEST_DEGREE {
+        if self.norm < NORM_LIMIT
+            && self.spread <= u64::from(SPREAD_LIMIT)
+            && self.degree <= DEGREE_LIMIT
+        {
             Ok(self)
         } else {
             Err(CheckFail::Wrong(Fault::Bound))

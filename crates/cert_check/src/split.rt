@@ -37,8 +37,6 @@ pub fn push_lower_side(alloc: Global, rows: &mut Rows<'_>, poly: &Poly) -> Resul
     ensures { OnOk result (rows.new ≡ with_row rows.old (at_least_0 (below_0 poly.now))) }
 {
     let negated = poly.multiple(alloc, -1)?;
-    rows.push(PRow {
-        poly: negated.sum(alloc, &Poly::constant(alloc, -1)?)?,
-        op: Op::Ge,
-    })
+    let poly = negated.into_sum(alloc, Poly::constant(alloc, -1)?)?;
+    rows.push(PRow { poly, op: Op::Ge })
 }

@@ -32,7 +32,7 @@ pub fn walk_through(alloc: Global, rows: &Rows<'_>, e: &Psatz) -> Result<Boxed<N
         Psatz::Add(first, second) => {
             let first = walk_through(alloc, rows, first.get())?;
             let second = walk_through(alloc, rows, second.get())?;
-            sum_node(alloc, first.get(), second.get())
+            sum_node(alloc, first.into_inner(), second.into_inner())
         }
         Psatz::Const(c) => constant_node(alloc, *c),
         Psatz::Zero => zero_node(alloc),
