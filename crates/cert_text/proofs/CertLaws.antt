@@ -12,6 +12,7 @@ use Rattle.cert_kit.specs.declared.cert.Psatz.{Psatz}
 use Rattle.cert_kit.specs.declared.cert.Step.{Step}
 use Rattle.cert_kit.specs.declared.cert.Step.TheVariants.{Rat, Cut}
 use Rattle.cert_kit.specs.declared.cert.Cert.{Cert}
+use Rattle.cert_kit.specs.Making.{ends}
 use Rattle.cert_kit.specs.declared.cert.Close.{Close}
 use Rattle.cert_kit.specs.declared.cert.Close.TheOpen.{Close-F}
 use Rattle.cert_kit.specs.declared.cert.Close.TheViews.{roll-Close}
@@ -246,7 +247,7 @@ split_takes d takes bytes line k rest opens read =
 members_taken : (d : ℕ) → Takes d → AreTaken (after (codes ", ")) (cert_at d) next_member (CertWithin d)
 members_taken d takes = record { takes = λ bytes m c rest marked read. let t = takes m c rest read in (after_takes (codes ", ") bytes m marked ∙ ap (λ b. codes ", " ++ b) t.text, t.within) }
 
-enum_within : (d : ℕ) (e f : Psatz) (cs : List Cert) → PsatzWithin d e → PsatzWithin d f → length cs < 2 ^ 32 → MembersWithin d cs → LevelWithin (suc d) (Close-F.Enum e f cs)
+enum_within : (d : ℕ) (e f : Psatz) (cs : List Cert) → PsatzWithin d e → PsatzWithin d f → length cs < 2 ^ 32 → MembersWithin d cs → LevelWithin (suc d) (Close-F.Enum (ends e f) cs)
 enum_within d e f cs first second few members =
     let x = first.flat in
     let y = second.flat in
@@ -262,18 +263,18 @@ enum_within d e f cs first second few members =
 
 enum_takes : (d : ℕ) → Takes d → (bytes line : List ℕ) (k : Close) (rest : List ℕ) → bytes ≡ codes "enum(" ++ line → enum_at (psatz_at d) (cert_at d) line ≡ Some (k, rest) → TakesClose (suc d) bytes k rest
 enum_takes d takes bytes line k rest opens read =
-    let a = bind_some (pair_at (psatz_at d) line) (λ p. members_at (cert_at d) p.1 >>= λ cs. after (codes ")") cs.1 >>= λ end. Some (Enum p.0.0 p.0.1 cs.0, end)) (k, rest) read in
-    let b = bind_some (members_at (cert_at d) a.0.1) (λ cs. after (codes ")") cs.1 >>= λ end. Some (Enum a.0.0.0 a.0.0.1 cs.0, end)) (k, rest) a.2 in
-    let z = bind_some (after (codes ")") b.0.1) (λ end. Some (Enum a.0.0.0 a.0.0.1 b.0.0, end)) (k, rest) b.2 in
+    let a = bind_some (pair_at (psatz_at d) line) (λ p. members_at (cert_at d) p.1 >>= λ cs. after (codes ")") cs.1 >>= λ end. Some (Enum (ends p.0.0 p.0.1) cs.0, end)) (k, rest) read in
+    let b = bind_some (members_at (cert_at d) a.0.1) (λ cs. after (codes ")") cs.1 >>= λ end. Some (Enum (ends a.0.0.0 a.0.0.1) cs.0, end)) (k, rest) a.2 in
+    let z = bind_some (after (codes ")") b.0.1) (λ end. Some (Enum (ends a.0.0.0 a.0.0.1) b.0.0, end)) (k, rest) b.2 in
     let p = pair_takes d (psatz_takes d) line a.0.0 a.0.1 a.1 in
     let m = many_take (after (codes ", ")) (cert_at d) next_member (CertWithin d) (members_taken d takes) (2 ^ 32 - 1) a.0.1 b.0.0 b.0.1 b.1 in
     let flat : flat_map next_member b.0.0 ++ b.0.1 ≡ more_members (map cert_text b.0.0) ++ (codes ")" ++ z.0) =
     ap (λ t. t ++ b.0.1) (sym (members_flat b.0.0)) ∙ ap (λ t. more_members (map cert_text b.0.0) ++ t) (after_takes (codes ")") b.0.1 z.0 z.1) in
-    let text : bytes ≡ spelled (Close-F.Enum a.0.0.0 a.0.0.1 b.0.0) ++ z.0 =
+    let text : bytes ≡ spelled (Close-F.Enum (ends a.0.0.0 a.0.0.1) b.0.0) ++ z.0 =
     opens ∙ ap (λ t. codes "enum(" ++ t) (p.text ∙ ap (λ t. psatz_text a.0.0.0 ++ (codes ", " ++ (psatz_text a.0.0.1 ++ t))) (m.0 ∙ flat)
     ∙ sym (members_on (psatz_text a.0.0.0) (psatz_text a.0.0.1) (more_members (map cert_text b.0.0)) z.0)) in
-    subst (λ (q : Close × List ℕ). TakesClose (suc d) bytes q.0 q.1) (same_Some (Enum a.0.0.0 a.0.0.1 b.0.0, z.0) (k, rest) z.2)
-    (made (suc d) bytes (Close-F.Enum a.0.0.0 a.0.0.1 b.0.0) (Enum a.0.0.0 a.0.0.1 b.0.0) z.0 (rolls-Enum a.0.0.0 a.0.0.1 b.0.0) text
+    subst (λ (q : Close × List ℕ). TakesClose (suc d) bytes q.0 q.1) (same_Some (Enum (ends a.0.0.0 a.0.0.1) b.0.0, z.0) (k, rest) z.2)
+    (made (suc d) bytes (Close-F.Enum (ends a.0.0.0 a.0.0.1) b.0.0) (Enum (ends a.0.0.0 a.0.0.1) b.0.0) z.0 (rolls-Enum (ends a.0.0.0 a.0.0.1) b.0.0) text
     (enum_within d a.0.0.0 a.0.0.1 b.0.0 p.first p.second (omega (arith, m.2)) (members_from d b.0.0 m.1)))
 
 end_takes : (d : ℕ) → Takes d → (bytes : List ℕ) (k : Close) (rest : List ℕ) → end_at (psatz_at d) (cert_at d) bytes ≡ Some (k, rest) → TakesClose (suc d) bytes k rest
@@ -317,7 +318,7 @@ shape = ind-Close (λ k. (y : Close-F Close Cert) × (roll-Close y ≡ k)) (λ _
 level_no_step : (y : Close-F Close Cert) (rest : List ℕ) → step_word_at (spelled y ++ rest) ≡ None
 level_no_step Close-F.Done rest = refl
 level_no_step (Close-F.Split p c e) rest = refl
-level_no_step (Close-F.Enum e f cs) rest = refl
+level_no_step (Close-F.Enum b cs) rest = refl
 
 -- no step begins where the close stands
 no_step : (k : Close) (rest : List ℕ) → step_word_at (close_text k ++ rest) ≡ None
@@ -366,7 +367,7 @@ members_stop [] rest = refl
 members_stop (c ∷ cs) rest = refl
 
 enum_read : (d : ℕ) → Reads d → (e f : Psatz) (cs : List Cert) (rest : List ℕ) → PsatzWithin d e → PsatzWithin d f → length cs < 2 ^ 32 → MembersWithin d cs
-    → end_at (psatz_at d) (cert_at d) (codes "enum(" ++ (psatz_text e ++ (codes ", " ++ (psatz_text f ++ (more_members (map cert_text cs) ++ (codes ")" ++ rest)))))) ≡ Some (Enum e f cs, rest)
+    → end_at (psatz_at d) (cert_at d) (codes "enum(" ++ (psatz_text e ++ (codes ", " ++ (psatz_text f ++ (more_members (map cert_text cs) ++ (codes ")" ++ rest)))))) ≡ Some (Enum (ends e f) cs, rest)
 unfolding end_at
 enum_read d reads e f cs rest first second few members =
     let p = pair_read d (psatz_again d) e f (more_members (map cert_text cs) ++ (codes ")" ++ rest)) first second (members_stop cs rest) in
@@ -382,24 +383,24 @@ level_deep d reads (Close-F.Split p c e) rest w =
     (part_of d (max (cert_depth c) (cert_depth e)) (cert_constants c && cert_constants e) (is_cert_within c && is_cert_within e) both) in
     ap (λ t. end_at (psatz_at d) (cert_at d) (codes "split(" ++ t)) (three_on (poly_text p) (cert_text c) (cert_text e) rest)
     ∙ split_read d reads p c e rest (fits_given p parts.0) each.0 each.1 ∙ ap (λ k. Some (k, rest)) (sym (rolls-Split p c e))
-level_deep d reads (Close-F.Enum e f cs) rest w =
+level_deep d reads (Close-F.Enum b cs) rest w =
     let x = w.flat in
-    let range = and_parts (has_constants_in_range e) (has_constants_in_range f && all_in_range (map cert_constants cs)) w.in_range in
-    let range_f = and_parts (has_constants_in_range f) (all_in_range (map cert_constants cs)) range.1 in
-    let inside = and_parts (is_psatz_within e && is_psatz_within f) (ltb (length (map is_cert_within cs)) (2 ^ 32) && all_in_range (map is_cert_within cs)) w.inside in
-    let inside_pair = and_parts (is_psatz_within e) (is_psatz_within f) inside.0 in
+    let range = and_parts (has_constants_in_range b.lower) (has_constants_in_range b.upper && all_in_range (map cert_constants cs)) w.in_range in
+    let range_f = and_parts (has_constants_in_range b.upper) (all_in_range (map cert_constants cs)) range.1 in
+    let inside = and_parts (is_psatz_within b.lower && is_psatz_within b.upper) (ltb (length (map is_cert_within cs)) (2 ^ 32) && all_in_range (map is_cert_within cs)) w.inside in
+    let inside_pair = and_parts (is_psatz_within b.lower) (is_psatz_within b.upper) inside.0 in
     let inside_members = and_parts (ltb (length (map is_cert_within cs)) (2 ^ 32)) (all_in_range (map is_cert_within cs)) inside.1 in
     let few : length cs < 2 ^ 32 = omega (arith, ltb-true (length (map is_cert_within cs)) (2 ^ 32) inside_members.0, length-map cs is_cert_within) in
-    let first : PsatzWithin d e = record { flat = omega arith; in_range = range.0; inside = inside_pair.0 } in
-    let second : PsatzWithin d f = record { flat = omega arith; in_range = range_f.0; inside = inside_pair.1 } in
+    let first : PsatzWithin d b.lower = record { flat = omega arith; in_range = range.0; inside = inside_pair.0 } in
+    let second : PsatzWithin d b.upper = record { flat = omega arith; in_range = range_f.0; inside = inside_pair.1 } in
     let members : MembersWithin d cs = record { flat = omega arith; in_range = range_f.1; inside = inside_members.1 } in
-    ap (λ t. end_at (psatz_at d) (cert_at d) (codes "enum(" ++ t)) (members_on (psatz_text e) (psatz_text f) (more_members (map cert_text cs)) rest)
-    ∙ enum_read d reads e f cs rest first second few members ∙ ap (λ k. Some (k, rest)) (sym (rolls-Enum e f cs))
+    ap (λ t. end_at (psatz_at d) (cert_at d) (codes "enum(" ++ t)) (members_on (psatz_text b.lower) (psatz_text b.upper) (more_members (map cert_text cs)) rest)
+    ∙ enum_read d reads b.lower b.upper cs rest first second few members ∙ ap (λ k. Some (k, rest)) (sym (rolls-Enum b cs))
 
 level_flat : (y : Close-F Close Cert) (rest : List ℕ) → LevelWithin 0 y → done_at (spelled y ++ rest) ≡ Some (roll-Close y, rest)
 level_flat Close-F.Done rest w = done_read rest ∙ ap (λ k. Some (k, rest)) (sym rolls-Done)
 level_flat (Close-F.Split p c e) rest w = absurd (let k = w.flat in omega arith)
-level_flat (Close-F.Enum e f cs) rest w = absurd (let k = w.flat in omega arith)
+level_flat (Close-F.Enum b cs) rest w = absurd (let k = w.flat in omega arith)
 
 -- what holds of each level holds of the close
 from_level : (d : ℕ) (close : List ℕ → Option (Close × List ℕ)) (k : Close) (rest : List ℕ) → ((y : Close-F Close Cert) → LevelWithin d y → close (spelled y ++ rest) ≡ Some (roll-Close y, rest))

@@ -2,7 +2,7 @@
 use Rattle.std.proofs.Common.{◌≡◌, ℕ, ◌^◌, ◌<◌, ◌≤◌, Bool, true, false, cond, eqb, inl, inr, List, [], ◌∷◌, ◌++◌, length, Some, None, refl, sym, ap, subst, ◌∙◌, append_assoc, arith}
 use Rattle.std.specs.Prelude.{◌&&◌, not, decimal, codes}
 use Rattle.std.specs.List.{flat_map, AllByRecursion}
-use Rattle.std.proofs.lemmas.Bool.{ne_eqb, cases_eq, and_parts}
+use Rattle.std.proofs.lemmas.Bool.{ne_eqb, cases_eq, and_parts, not-true}
 use Rattle.std.proofs.lemmas.Option.{same_Some}
 use Rattle.mm_num.specs.Option.{◌>>=◌}
 use Rattle.mm_num.proofs.OptionLaws.{bind_some, choice_some}
@@ -28,28 +28,24 @@ abbrev pub ends_term : List ℕ → Bool
 ends_term [] = true
 ends_term (c ∷ rest) = (not (is_digit c) && not (eqb c 94)) && not (eqb c 42)
 
-is_not : (b : Bool) → not b ≡ true → b ≡ false
-is_not false e = refl
-is_not true e = cc
-
 pub factor_ends : (rest : List ℕ) → ends_term rest ≡ true → ends_factor rest ≡ true
 factor_ends [] e = refl
 factor_ends (c ∷ rest) e = (and_parts (not (is_digit c) && not (eqb c 94)) (not (eqb c 42)) e).0
 
 pub no_digit : (rest : List ℕ) → ends_factor rest ≡ true → begins_digit rest ≡ false
 no_digit [] e = refl
-no_digit (c ∷ rest) e = is_not (is_digit c) (and_parts (not (is_digit c)) (not (eqb c 94)) e).0
+no_digit (c ∷ rest) e = not-true (is_digit c) (and_parts (not (is_digit c)) (not (eqb c 94)) e).0
 
 no_power : (rest : List ℕ) → ends_factor rest ≡ true → after (codes "^") rest ≡ None
 no_power [] e = refl
 no_power (c ∷ rest) e =
-    let other : eqb c 94 ≡ false = is_not (eqb c 94) (and_parts (not (is_digit c)) (not (eqb c 94)) e).1 in
+    let other : eqb c 94 ≡ false = not-true (eqb c 94) (and_parts (not (is_digit c)) (not (eqb c 94)) e).1 in
     rw other refl
 
 pub no_star : (rest : List ℕ) → ends_term rest ≡ true → after (codes "*x") rest ≡ None
 no_star [] e = refl
 no_star (c ∷ rest) e =
-    let other : eqb c 42 ≡ false = is_not (eqb c 42) (and_parts (not (is_digit c) && not (eqb c 94)) (not (eqb c 42)) e).1 in
+    let other : eqb c 42 ≡ false = not-true (eqb c 42) (and_parts (not (is_digit c) && not (eqb c 94)) (not (eqb c 42)) e).1 in
     rw other refl
 
 -- ---- exponents

@@ -47,7 +47,7 @@ are_steps_within (s ∷ steps) = is_step_within s && are_steps_within steps
 abbrev pub close_level_within : Close-F Bool Bool → Bool
 close_level_within Close-F.Done = true
 close_level_within (Close-F.Split p c d) = is_polynomial p && (c && d)
-close_level_within (Close-F.Enum e f cs) = (is_psatz_within e && is_psatz_within f) && (nat_lt (length cs) (2 ^ 32) && all_in_range cs)
+close_level_within (Close-F.Enum b cs) = (is_psatz_within b.lower && is_psatz_within b.upper) && (nat_lt (length cs) (2 ^ 32) && all_in_range cs)
 
 abbrev pub cert_level_within : Cert-F Bool Bool → Bool
 cert_level_within c = are_steps_within c.steps && c.close

@@ -12,6 +12,7 @@ use Rattle.cert_kit.specs.declared.cert.Step.TheVariants.{Rat, Cut}
 use Rattle.cert_kit.specs.declared.cert.Cert.{Cert}
 use Rattle.cert_kit.specs.declared.cert.Close.{Close}
 use Rattle.cert_kit.specs.declared.cert.Close.TheVariants.{Done, Split, Enum}
+use Rattle.cert_kit.specs.Making.{ends}
 use Rattle.cert_text.specs.declared.fail.TextFail.{TextFail}
 use Rattle.cert_text.specs.declared.fail.TextFail.TheVariants.{Bad, NoMemory}
 use Rattle.mm_poly.specs.Tests.{is_monomial, is_polynomial}
@@ -315,7 +316,7 @@ members_at member = many_at (after (codes ", ")) member (2 ^ 32 - 1)
 abbrev pub enum_end_at : Psatz → Psatz → List Cert → List ℕ → Option (Close × List ℕ)
 enum_end_at e f cs bytes = do
   rest ← after (codes ")") bytes
-  Some (Enum e f cs, rest)
+  Some (Enum (ends e f) cs, rest)
 
 -- two expressions and the members
 abbrev pub enum_at : (List ℕ → Option (Psatz × List ℕ)) → (List ℕ → Option (Cert × List ℕ)) → List ℕ → Option (Close × List ℕ)

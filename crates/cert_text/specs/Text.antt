@@ -85,7 +85,7 @@ more_members (c ∷ cs) = codes ", " ++ (c ++ more_members cs)
 abbrev pub close_spelling : Close-F (List ℕ) (List ℕ) → List ℕ
 close_spelling Close-F.Done = codes "done"
 close_spelling (Close-F.Split p c d) = codes "split(" ++ (poly_text p ++ (codes ", " ++ (c ++ (codes ", " ++ (d ++ codes ")")))))
-close_spelling (Close-F.Enum e f cs) = codes "enum(" ++ (psatz_text e ++ (codes ", " ++ (psatz_text f ++ (more_members cs ++ codes ")"))))
+close_spelling (Close-F.Enum b cs) = codes "enum(" ++ (psatz_text b.lower ++ (codes ", " ++ (psatz_text b.upper ++ (more_members cs ++ codes ")"))))
 
 abbrev pub cert_spelling : Cert-F (List ℕ) (List ℕ) → List ℕ
 cert_spelling c = flat_map step_text c.steps ++ c.close

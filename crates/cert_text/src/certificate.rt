@@ -9,7 +9,7 @@ use crate::expression::{expression, pair};
 use crate::fail::TextFail;
 use crate::polynomial::polynomial;
 use crate::word::{skip, strip};
-use cert_kit::{Cert, Close, Psatz, Step};
+use cert_kit::{Cert, Close, Ends, Psatz, Step};
 use mm_poly::Poly;
 use sqlite_items::{Boxed, Items};
 use std::alloc::{AllocError, Global};
@@ -155,7 +155,11 @@ fn enumeration_end(
     let rest = skip(bytes, b")")?;
     let steps = Items::from_vec(steps);
     let members = Items::from_vec(members);
-    let close = Close::Enum(bounds.0.into_inner(), bounds.1.into_inner(), members);
+    let ends = Ends {
+        lower: bounds.0.into_inner(),
+        upper: bounds.1.into_inner(),
+    };
+    let close = Close::Enum(Boxed::new(alloc, ends)?, members);
     Ok((Boxed::new(alloc, Cert { steps, close })?, rest))
 }
 

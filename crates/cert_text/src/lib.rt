@@ -18,6 +18,3 @@ mod word;
 pub use check::{one_place, one_reading, read_check};
 pub use fail::CheckText;
 pub use print::{print_cert, print_row};
-
-#[cfg(test)]
-mod tests;

@@ -6,11 +6,8 @@ ghost use Rattle.cert_text.specs.Reading.{Gives, terms_at, fitting, poly_at};
 use crate::fail::TextFail;
 use crate::term::{first_sign, next_sign, term};
 use crate::word::strip;
-use mm_poly::{Poly, Term};
+use mm_poly::{Poly, SPREAD_LIMIT, Term};
 use std::alloc::Global;
-
-// A polynomial has at most this many terms.
-const MOST_TERMS: u32 = 65_536;
 
 // Terms, one after the other.
 #[tactic(auto, unfolding(crate::specs::Reading::terms_at))]
@@ -22,7 +19,7 @@ fn terms(alloc: Global, bytes: &[u8]) -> Result<(Vec<Term>, &[u8]), TextFail>
     // Many polynomials have but one term.
     let mut terms = Vec::with_capacity(alloc, 1)?;
     terms.push(first)?;
-    for _ in 0..MOST_TERMS {
+    for _ in 0..SPREAD_LIMIT {
         let Some((negative, after)) = next_sign(rest) else {
             return Ok((terms, rest));
         };

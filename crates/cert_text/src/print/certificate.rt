@@ -124,9 +124,9 @@ fn push_close(out: &mut Vec<u8>, close: &Close) -> Result<(), AllocError>
             push_cert(out, second.get())?;
             out.extend_from_slice(b")")
         }
-        Close::Enum(lower, upper, members) => {
+        Close::Enum(ends, members) => {
             out.extend_from_slice(b"enum(")?;
-            push_bounds(out, lower, upper)?;
+            push_bounds(out, &ends.get().lower, &ends.get().upper)?;
             push_members(out, members.as_slice())?;
             out.extend_from_slice(b")")
         }
