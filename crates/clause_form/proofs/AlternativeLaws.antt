@@ -9,9 +9,8 @@ use Rattle.mm_poly.specs.declared.term.Term.{Term}
 use Rattle.mm_poly.specs.Poly.{value, constant_of}
 use Rattle.mm_poly.proofs.ValueLaws.{value_plus, value_constant}
 use Rattle.mm_poly.proofs.CaseLaws.{by_if}
-use Rattle.cert_kit.specs.declared.row.Op.{Op}
-use Rattle.cert_kit.specs.declared.row.Op.TheVariants as ops
 use Rattle.cert_kit.specs.declared.row.PRow.{PRow}
+use Rattle.cert_kit.specs.Row.{row_holds, all_hold}
 use Rattle.goal_ast.specs.declared.formula.Cmp.{Cmp}
 use Rattle.goal_ast.specs.declared.formula.Cmp.TheVariants as cmps
 use Rattle.goal_ast.specs.Truth.{Point, compare, same}
@@ -26,17 +25,6 @@ use Rattle.clause_form.specs.Polynomial.{difference, opposite_of, poly_of}
 use Rattle.clause_form.specs.Alternatives.{at_least, above, first_positive, equal, comparison, opposite, pairs, Sides, sides_level, sides_of, all_alternatives, alternatives_of}
 use Rattle.clause_form.proofs.BoolLaws.{same_tests, and_true, or_false, and_assoc, or_assoc, and_or, or_and, not_and, not_or, not_not, not_implies, both_or_none, one_alone}
 use Rattle.clause_form.proofs.PolynomialLaws.{value_opposite, value_difference, poly_agrees}
-
--- rows as tests
-abbrev pub compares_0 : Op → ℤ → Bool
-compares_0 ops.Ge v = int_le (pos 0) v
-compares_0 ops.Eq v = int_eq v (pos 0)
-
-abbrev pub row_holds : Point → PRow → Bool
-row_holds x r = compares_0 r.op (value x r.poly)
-
-abbrev pub all_hold : Point → List PRow → Bool
-all_hold x rows = list_all (row_holds x) rows
 
 abbrev pub some_holds : Point → List (List PRow) → Bool
 some_holds x lists = list_any (all_hold x) lists

@@ -1,14 +1,11 @@
 -- The law of clauses.
-use Rattle.std.specs.Prelude.{◌≡◌, ◌↔◌, ℕ, zero, suc, ◌<◌, ℤ, List, [], ◌∷◌, map, length, Bool, true, false, not, ◌&&◌, ◌||◌, slice_index_or, Any, refl}
+use Rattle.std.specs.Prelude.{◌≡◌, ◌↔◌, ℕ, zero, suc, ◌<◌, List, [], ◌∷◌, map, length, Bool, true, false, not, ◌&&◌, ◌||◌, slice_index_or, Any, refl}
 use Rattle.std.specs.List.{list_all, AllByRecursion}
 use Rattle.std.proofs.Common.{ap, ◌∙◌, sym, subst, arith}
-use Rattle.std.proofs.lemmas.Int.{ints}
 use Rattle.std.proofs.lemmas.Bool.{and_parts}
 use Rattle.cert_kit.specs.declared.row.PRow.{PRow}
-use Rattle.cert_kit.specs.declared.row.Op.{Op}
-use Rattle.cert_kit.specs.declared.row.Op.TheVariants as ops
-use Rattle.mm_poly.specs.Poly.{value}
-use Rattle.cert_kit.specs.Row.{Compares, Holds, Solves}
+use Rattle.cert_kit.specs.Row.{Solves, all_hold}
+use Rattle.cert_kit.proofs.SolvingLaws.{rows_tested}
 use Rattle.goal_ast.proofs.CountingLaws.{both_same}
 use Rattle.zify.specs.declared.form.ZForm.{ZForm}
 use Rattle.goal_ast.specs.Truth.{Point}
@@ -18,31 +15,14 @@ use Rattle.clause_form.specs.declared.named.Named.{Named}
 use Rattle.clause_form.specs.Alternatives.{alternatives_of}
 use Rattle.clause_form.specs.Naming.{variables_of, place_of}
 use Rattle.clause_form.specs.Clauses.{named, clauses_of, seen_by, SolvedBy, Refutes, AllUnsolvable}
-use Rattle.clause_form.proofs.AlternativeLaws.{compares_0, row_holds, all_hold, some_holds, goal_tells}
+use Rattle.clause_form.proofs.AlternativeLaws.{some_holds, goal_tells}
 use Rattle.clause_form.proofs.NamingLaws.{or_second, named_back, named_through}
 
--- tests of rows are their facts
-row_says : (x : Point) (r : PRow) → row_holds x r ≡ true → Holds x r
-row_says x r h = by_op r.op (value x r.poly) h
-  where
-    by_op : (o : Op) (v : ℤ) → compares_0 o v ≡ true → Compares o v
-    by_op ops.Ge v h = grind (arith, ints)
-    by_op ops.Eq v h = grind (arith, ints)
-
-row_meets : (x : Point) (r : PRow) → Holds x r → row_holds x r ≡ true
-row_meets x r h = by_op r.op (value x r.poly) h
-  where
-    by_op : (o : Op) (v : ℤ) → Compares o v → compares_0 o v ≡ true
-    by_op ops.Ge v h = grind (arith, ints)
-    by_op ops.Eq v h = grind (arith, ints)
-
 solved : (x : Point) (rows : List PRow) → all_hold x rows ≡ true → Solves x rows
-solved x [] h = tt
-solved x (r ∷ rows) h = let p = and_parts (row_holds x r) (all_hold x rows) h in (row_says x r p.0, solved x rows p.1)
+solved x rows = (rows_tested x rows).0
 
 tested : (x : Point) (rows : List PRow) → Solves x rows → all_hold x rows ≡ true
-tested x [] h = refl
-tested x (r ∷ rows) h = both_same (λ s t. s && t) _ _ _ _ (row_meets x r h.0) (tested x rows h.1)
+tested x rows = (rows_tested x rows).1
 
 hypotheses_hold : (x : Point) (hs : List ZForm) → list_all (z_truth_of x) hs ≡ true → AllByRecursion (HoldsTranslated x) hs
 hypotheses_hold x [] e = tt

@@ -3,58 +3,41 @@ use Rattle.std.specs.Prelude.{◌≡◌, ℕ, suc, ◌+◌, ◌+ℤ◌, ◌*ℤ�
 use Rattle.std.specs.List.{list_any, list_all}
 use Rattle.std.specs.Ordering.{nat_cmp}
 use Rattle.std.specs.declared.cmp.Ordering.{Ordering}
-use Rattle.std.specs.declared.cmp.Ordering.TheVariants.{Equal}
-use Rattle.std.specs.FinMap.{IsAntisymmetric, nat_cmp-IsAntisymmetric, int_cmp-IsAntisymmetric, slice_cmp-IsAntisymmetric}
+use Rattle.std.specs.declared.cmp.Ordering.TheVariants.{Less, Equal, Greater}
+use Rattle.std.specs.FinMap.{IsAntisymmetric, nat_cmp-IsAntisymmetric}
 use Rattle.std.proofs.Common.{ap, ◌∙◌, sym, subst, arith}
 use Rattle.std.proofs.lemmas.Bool.{eqb-true}
 use Rattle.mm_num.specs.Power.{power}
 use Rattle.mm_poly.specs.declared.term.Term.{Term}
 use Rattle.mm_poly.specs.Mono.{mono_value}
-use Rattle.mm_poly.specs.Poly.{value, term_cmp}
+use Rattle.mm_poly.specs.Poly.{value}
 use Rattle.mm_poly.proofs.CaseLaws.{by_cases}
-use Rattle.mm_poly.proofs.OrderLaws.{mono_exact, then_first, then_second}
 use Rattle.mm_poly.proofs.RenamingLaws.{value_renamed}
-use Rattle.cert_kit.specs.declared.row.Op.{Op}
-use Rattle.cert_kit.specs.declared.row.Op.TheVariants as ops
 use Rattle.cert_kit.specs.declared.row.PRow.{PRow}
 use Rattle.goal_ast.specs.Truth.{Point}
 use Rattle.goal_ast.proofs.CountingLaws.{both_same}
-use Rattle.clause_form.specs.Naming.{with_element, in_order, mono_variables, poly_variables, row_variables, variables_of, place_of, renamed_row, op_cmp, row_cmp, named_rows}
+use Rattle.clause_form.specs.Naming.{with_element, in_order, mono_variables, poly_variables, row_variables, variables_of, place_of, renamed_row, named_rows}
+use Rattle.cert_kit.specs.Order.{row_cmp}
+use Rattle.cert_kit.specs.Row.{compares_0, row_holds, all_hold}
+use Rattle.cert_kit.proofs.RowOrderLaws.{row_exact}
 use Rattle.clause_form.specs.Clauses.{seen_by}
 use Rattle.clause_form.proofs.BoolLaws.{or_assoc}
-use Rattle.clause_form.proofs.AlternativeLaws.{compares_0, row_holds, all_hold}
-
--- ---- the order of rows tells different ones apart
-
-term_exact : IsAntisymmetric term_cmp
-term_exact t u e = both_same (λ m c. record { coeff = c; mono = m }) _ _ _ _
-    (mono_exact t.mono u.mono (then_first _ _ e)) (int_cmp-IsAntisymmetric t.coeff u.coeff (then_second _ _ e))
-
-op_exact : (o p : Op) → op_cmp o p ≡ Equal → o ≡ p
-op_exact ops.Ge ops.Ge e = refl
-op_exact ops.Ge ops.Eq e = cc
-op_exact ops.Eq ops.Ge e = cc
-op_exact ops.Eq ops.Eq e = refl
-
-pub row_exact : IsAntisymmetric row_cmp
-row_exact r s e = both_same (λ (p : List Term) (o : Op). record { poly = p; op = o }) _ _ _ _
-    (slice_cmp-IsAntisymmetric term_exact r.poly s.poly (then_first _ _ e)) (op_exact r.op s.op (then_second _ _ e))
 
 -- ---- elements in order
 
 -- what holds of the list with an element, by how it compares to the first
 pub by_place : {A : Type 0} → (cmp : A → A → Ordering) (a b : A) (bs : List A) (P : List A → Type 0)
-    → P (a ∷ b ∷ bs)
+    → (cmp a b ≡ Less → P (a ∷ b ∷ bs))
     → (cmp a b ≡ Equal → P (b ∷ bs))
-    → P (b ∷ with_element cmp a bs)
+    → (cmp a b ≡ Greater → P (b ∷ with_element cmp a bs))
     → P (with_element cmp a (b ∷ bs))
-by_place cmp a b bs P l e g = by_cases (cmp a b) (λ o. rw (o, with_element) l) (λ o. rw (o, with_element) (e o)) (λ o. rw (o, with_element) g)
+by_place cmp a b bs P l e g = by_cases (cmp a b) (λ o. rw (o, with_element) (l o)) (λ o. rw (o, with_element) (e o)) (λ o. rw (o, with_element) (g o))
 
 twice : (s t : Bool) → (s && t) ≡ (s && (s && t))
 twice true t = refl
 twice false t = refl
 
-either_twice : (s t : Bool) → (s || t) ≡ (s || (s || t))
+pub either_twice : (s t : Bool) → (s || t) ≡ (s || (s || t))
 either_twice true t = refl
 either_twice false t = refl
 
@@ -74,17 +57,17 @@ all_with : {A : Type 0} → (cmp : A → A → Ordering) (test : A → Bool) →
     → list_all test (with_element cmp a bs) ≡ (test a && list_all test bs)
 all_with cmp test exact a [] = refl
 all_with cmp test exact a (b ∷ bs) = by_place cmp a b bs (λ r. list_all test r ≡ (test a && (test b && list_all test bs)))
-    refl
+    (λ o. refl)
     (λ o. twice (test b) (list_all test bs) ∙ ap (λ c. test c && (test b && list_all test bs)) (sym (exact a b o)))
-    (ap (λ s. test b && s) (all_with cmp test exact a bs) ∙ and_turned (test b) (test a) (list_all test bs))
+    (λ o. ap (λ s. test b && s) (all_with cmp test exact a bs) ∙ and_turned (test b) (test a) (list_all test bs))
 
 any_with : {A : Type 0} → (cmp : A → A → Ordering) (test : A → Bool) → IsAntisymmetric cmp → (a : A) (bs : List A)
     → list_any test (with_element cmp a bs) ≡ (test a || list_any test bs)
 any_with cmp test exact a [] = refl
 any_with cmp test exact a (b ∷ bs) = by_place cmp a b bs (λ r. list_any test r ≡ (test a || (test b || list_any test bs)))
-    refl
+    (λ o. refl)
     (λ o. either_twice (test b) (list_any test bs) ∙ ap (λ c. test c || (test b || list_any test bs)) (sym (exact a b o)))
-    (ap (λ s. test b || s) (any_with cmp test exact a bs) ∙ or_turned (test b) (test a) (list_any test bs))
+    (λ o. ap (λ s. test b || s) (any_with cmp test exact a bs) ∙ or_turned (test b) (test a) (list_any test bs))
 
 -- a test of all elements, or of some, says the same of them in order
 pub all_in_order : {A : Type 0} → (cmp : A → A → Ordering) (test : A → Bool) → IsAntisymmetric cmp → (xs : List A) → list_all test (in_order cmp xs) ≡ list_all test xs
@@ -104,10 +87,10 @@ any_append : {A : Type 0} → (test : A → Bool) (xs ys : List A) → list_any 
 any_append test [] ys = refl
 any_append test (x ∷ xs) ys = ap (λ s. test x || s) (any_append test xs ys) ∙ sym (or_assoc (test x) (list_any test xs) (list_any test ys))
 
-any_self : (v : ℕ) → nat_eq v v ≡ true
+pub any_self : (v : ℕ) → nat_eq v v ≡ true
 any_self v = grind arith
 
-or_first : (s t : Bool) → s ≡ true → (s || t) ≡ true
+pub or_first : (s t : Bool) → s ≡ true → (s || t) ≡ true
 or_first true t h = refl
 or_first false t h = absurd (cc)
 
@@ -115,20 +98,20 @@ pub or_second : (s t : Bool) → t ≡ true → (s || t) ≡ true
 or_second true t h = refl
 or_second false t h = h
 
-in_first : (v : ℕ) (xs ys : List ℕ) → occurs v xs ≡ true → occurs v (xs ++ ys) ≡ true
+pub in_first : (v : ℕ) (xs ys : List ℕ) → occurs v xs ≡ true → occurs v (xs ++ ys) ≡ true
 in_first v xs ys h = any_append (nat_eq v) xs ys ∙ or_first (occurs v xs) (occurs v ys) h
 
-in_second : (v : ℕ) (xs ys : List ℕ) → occurs v ys ≡ true → occurs v (xs ++ ys) ≡ true
+pub in_second : (v : ℕ) (xs ys : List ℕ) → occurs v ys ≡ true → occurs v (xs ++ ys) ≡ true
 in_second v xs ys h = any_append (nat_eq v) xs ys ∙ or_second (occurs v xs) (occurs v ys) h
 
--- two points that agree on these variables
-abbrev pub AgreeOn : List ℕ → Point → Point → Type 0
+-- two points, or two renumberings, that agree on these variables
+abbrev pub AgreeOn : {A : Type 0} → List ℕ → (ℕ → A) → (ℕ → A) → Type 0
 AgreeOn vars x y = (v : ℕ) → occurs v vars ≡ true → x v ≡ y v
 
-agree_first : (xs ys : List ℕ) (x y : Point) → AgreeOn (xs ++ ys) x y → AgreeOn xs x y
+pub agree_first : {A : Type 0} → (xs ys : List ℕ) (x y : ℕ → A) → AgreeOn (xs ++ ys) x y → AgreeOn xs x y
 agree_first xs ys x y a v h = a v (in_first v xs ys h)
 
-agree_second : (xs ys : List ℕ) (x y : Point) → AgreeOn (xs ++ ys) x y → AgreeOn ys x y
+pub agree_second : {A : Type 0} → (xs ys : List ℕ) (x y : ℕ → A) → AgreeOn (xs ++ ys) x y → AgreeOn ys x y
 agree_second xs ys x y a v h = a v (in_second v xs ys h)
 
 mono_local : (x y : Point) (fs : List (ℕ × ℕ)) → AgreeOn (mono_variables fs) x y → mono_value x fs ≡ mono_value y fs
@@ -163,7 +146,7 @@ named_back y vars rows = all_in_order row_cmp (row_holds y) row_exact (map (rena
 next_place : (w n v : ℕ) (vars : List ℕ) → slice_index_or vars n 0 ≡ v → slice_index_or (w ∷ vars) (1 + n) 0 ≡ v
 next_place w n v vars e = let s : suc n ≡ 1 + n = omega arith in subst (λ k. slice_index_or (w ∷ vars) k 0 ≡ v) s e
 
-found : (v : ℕ) (vars : List ℕ) → occurs v vars ≡ true → slice_index_or vars (place_of vars v) 0 ≡ v
+pub found : (v : ℕ) (vars : List ℕ) → occurs v vars ≡ true → slice_index_or vars (place_of vars v) 0 ≡ v
 found v [] h = absurd (cc)
 found v (w ∷ vars) h = by_first (nat_eq v w) refl (λ k. found v vars k)
   where

@@ -10,7 +10,6 @@ use Rattle.mm_poly.proofs.CaseLaws.{by_if}
 use Rattle.cert_kit.specs.declared.row.PRow.{PRow}
 use Rattle.clause_form.specs.declared.tally.Tally.{Tally}
 use Rattle.clause_form.specs.declared.plan.Plan.{Plan}
-use Rattle.clause_form.specs.declared.plan.Counted.{Counted}
 use Rattle.goal_ast.specs.declared.formula.Cmp.{Cmp}
 use Rattle.goal_ast.specs.declared.formula.Cmp.TheVariants as cmps
 use Rattle.zify.specs.declared.term.ZTerm.{ZTerm}
@@ -23,7 +22,7 @@ use Rattle.clause_form.specs.declared.plan.Plan.TheViews.{roll-Plan}
 use Rattle.clause_form.specs.declared.plan.Plan.TheFolds.{map-Plan, fold-roll-Plan, ind-Plan}
 use Rattle.clause_form.specs.Alternatives.{Sides, alone, pairs, sides_level, sides_of}
 use Rattle.clause_form.specs.machine.Tally.{product, negated, of_both, of_same, of_comparison, tally_level, tally_of}
-use Rattle.clause_form.specs.machine.Plan.{constant_sides, is_count, Planned, negated_plan, are_counted, both_planned, same_planned, planned_level, planned, right_plan, Made, made_by, made_atom, made_not, made_both, made_same, made_level, made}
+use Rattle.clause_form.specs.machine.Plan.{constant_sides, is_count, Planned, negated_plan, are_counted, both_planned, same_planned, planned_level, planned, right_plan, Made, made_atom, made_not, made_both, made_same, made_level, made}
 use Rattle.clause_form.specs.machine.Walk.{Walk, side, side_of, quotient, remainder, walk_pairs, walk_both, walk_same, row_at, walk_rows, walk_level, walk}
 use Rattle.clause_form.proofs.TallyLaws.{Counts, counts_not, counts_both, counts_same, up_to, product_up_to, length-pairs}
 use Rattle.clause_form.proofs.WalkLaws.{pairs_at}
@@ -55,27 +54,27 @@ pick a b n k x y e f g = by_if (nat_lt k n) x y (λ z. z ≡ slice_index_or (a +
 
 -- ---- pairs
 
-quotient_is : (k n : ℕ) → 0 < n → quotient k n ≡ k / n
+pub quotient_is : (k n : ℕ) → 0 < n → quotient k n ≡ k / n
 quotient_is k n h = by_if (n == 0) 0 (k / n) (λ z. z ≡ k / n) (λ t. absurd (let z = eqb-true n 0 t in omega arith)) (λ t. refl)
 
-remainder_is : (k n : ℕ) → 0 < n → remainder k n ≡ k % n
+pub remainder_is : (k n : ℕ) → 0 < n → remainder k n ≡ k % n
 remainder_is k n h = by_if (n == 0) 0 (k % n) (λ z. z ≡ k % n) (λ t. absurd (let z = eqb-true n 0 t in omega arith)) (λ t. refl)
 
-quotient_below : (k n m : ℕ) → 0 < n → k < m * n → k / n < m
+pub quotient_below : (k n m : ℕ) → 0 < n → k < m * n → k / n < m
 quotient_below k n m h l = elim (cases_lt (k / n) m) [
   | inl s ↦ s
   | inr s ↦ absurd (let p : m * n ≤ k / n * n = mul-le-mul {n₁ = m} {m₁ = n} {n₂ = k / n} {m₂ = n} s (omega arith) in let q = div-add-mod' k n in omega arith)
 ]
 
-factor_positive : (m n k : ℕ) → k < m * n → 0 < n
+pub factor_positive : (m n k : ℕ) → k < m * n → 0 < n
 factor_positive m zero k l = absurd (omega arith)
 factor_positive m (suc n) k l = omega arith
 
-factor_below : (m n k : ℕ) → k < m * n → m * n ≤ 4096 → n ≤ 4096
+pub factor_below : (m n k : ℕ) → k < m * n → m * n ≤ 4096 → n ≤ 4096
 factor_below zero n k l h = absurd (omega arith)
 factor_below (suc m) n k l h = let p : 1 * n ≤ suc m * n = mul-le-mul {n₁ = 1} {m₁ = n} {n₂ = suc m} {m₂ = n} (omega arith) (omega arith) in omega arith
 
-factor_small : (m n k : ℕ) → k < m * n → m * n ≤ 4096 → m ≤ 4096
+pub factor_small : (m n k : ℕ) → k < m * n → m * n ≤ 4096 → m ≤ 4096
 factor_small m n k l h = factor_below n m k (omega arith) (omega arith)
 
 pair_walks : (u : Tally) (w v : Walk) (d e : Planned) (s r : Bool) (k : ℕ) → WalksIn w d → WalksIn v e → d.counted ≡ true → e.counted ≡ true → is_count u e.sides ≡ true
@@ -210,7 +209,7 @@ pub record IsRight (m : Made) (t : Tally) (s : Sides) : Type 0 where
 made_of : (m : Made) (t : Tally) (d : Planned) → m.tally ≡ t → m.plan ≡ d → m ≡ record { tally = t; plan = d }
 made_of m t d e f = both_same (λ (a : Tally) (b : Planned). record { tally = a; plan = b }) _ _ _ _ e f
 
-right_not : (m : Made) (t : Tally) (s : Sides) → IsRight m t s → IsRight (made_not m) (negated t) (record { holds = s.fails; fails = s.holds })
+pub right_not : (m : Made) (t : Tally) (s : Sides) → IsRight m t s → IsRight (made_not m) (negated t) (record { holds = s.fails; fails = s.holds })
 right_not m t s h = record { tally = ap negated h.tally; plan = ap negated_plan h.plan; counts = counts_not t s h.counts }
 
 right_both : (m n : Made) (t u : Tally) (s r : Sides) → IsRight m t s → IsRight n u r
@@ -275,10 +274,3 @@ form_right = ind-ZForm FormRight (λ d y q. subst (λ (z : ZForm-F ZForm). FormR
   where
     step : (y : ZForm-F KnownForm) → FormRight (roll-ZForm (forms_of y))
     step y = right_moved _ _ _ _ _ _ (fold-roll-ZForm Made made_level (forms_of y)) (fold-roll-ZForm Tally tally_level (forms_of y)) (fold-roll-ZForm Sides sides_level (forms_of y)) (right_step y)
-
--- so its walk gives the alternative at each place, where there are at most 4,096
-pub form_walks : (c : Counted) (f : ZForm) (s : Bool) (k : ℕ) → made_by c ≡ made f → length (side s (sides_of f)) ≤ 4096 → k < length (side s (sides_of f))
-    → walk c.plan s k ≡ slice_index_or (side s (sides_of f)) k []
-form_walks c f s k e h l =
-    let d : planned c.plan ≡ right_plan (sides_of f) = ap (λ (m : Made). m.plan) e ∙ (form_right f).plan in
-    (subst (λ x. WalksIn (walk c.plan) x) d (plan_walks c.plan)) s k refl h l

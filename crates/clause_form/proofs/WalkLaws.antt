@@ -1,13 +1,14 @@
 -- The alternative at a place.
 use Rattle.std.specs.Prelude.{◌≡◌, ℕ, zero, suc, ◌+◌, ◌*◌, ◌-◌, ◌/◌, ◌%◌, ◌<◌, ◌≤◌, List, [], ◌∷◌, ◌++◌, map, length, slice_index_or, refl}
+use Rattle.std.specs.Borrow.{Bor}
 use Rattle.std.proofs.Common.{ap, ◌∙◌, sym, arith, inl, inr}
 use Rattle.std.proofs.lemmas.Bool.{cases_lt}
-use Rattle.std.proofs.lemmas.List.{length-map, get_or_append_left, get_or-append-add, get_or-map}
+use Rattle.std.proofs.lemmas.List.{append-nil, length-map, get_or_append_left, get_or-append-add, get_or-map}
 use Rattle.std.proofs.lemmas.Nat.{div-add-mod', div-mul-add}
 use Rattle.std.proofs.Math.Nat.{div-eq_of_lt, mod-eq_of_lt, mod-lt}
 use Rattle.clause_form.specs.Alternatives.{pairs}
 use Rattle.cert_kit.specs.declared.row.PRow.{PRow}
-use Rattle.clause_form.specs.machine.Walk.{row_at}
+use Rattle.clause_form.specs.machine.Walk.{lent, row_at}
 
 pub none_there : (rows : List PRow) (k : ℕ) → length rows ≤ k → row_at rows k ≡ []
 none_there [] k h = refl
@@ -19,12 +20,15 @@ one_there [] k r h e = absurd (omega arith)
 one_there (q ∷ rows) zero r h e = ap (λ s. s ∷ []) (sym e)
 one_there (q ∷ rows) (suc k) r h e = one_there rows k r (omega arith) e
 
-nil_end : (out : List PRow) → out ++ [] ≡ out
-nil_end [] = refl
-nil_end (r ∷ out) = ap (λ s. r ∷ s) (nil_end out)
-
 pub nothing_more : (out rows : List PRow) (k : ℕ) → length rows ≤ k → out ≡ out ++ row_at rows k
-nothing_more out rows k h = sym (ap (λ s. out ++ s) (none_there rows k h) ∙ nil_end out)
+nothing_more out rows k h = sym (ap (λ s. out ++ s) (none_there rows k h) ∙ append-nil out)
+
+lent_append : (out : List (Bor PRow)) (b : Bor PRow) → lent (out ++ b ∷ []) ≡ lent out ++ b.now ∷ []
+lent_append [] b = refl
+lent_append (a ∷ out) b = ap (λ s. a.now ∷ s) (lent_append out b)
+
+pub one_more : (out new : List (Bor PRow)) (b : Bor PRow) (rows : List PRow) (k : ℕ) → new ≡ out ++ b ∷ [] → k < length rows → b.now ≡ slice_index_or rows k b.now → lent new ≡ lent out ++ row_at rows k
+one_more out new b rows k e h i = ap lent e ∙ lent_append out b ∙ ap (λ s. lent out ++ s) (sym (one_there rows k b.now h i))
 
 -- ---- places in pairs
 

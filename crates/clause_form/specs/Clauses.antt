@@ -1,5 +1,5 @@
 -- The clauses of a goal, and its points as theirs.
-use Rattle.std.specs.Prelude.{◌≡◌, ℕ, List, map, false, slice_index_or}
+use Rattle.std.specs.Prelude.{◌≡◌, ℕ, ◌-◌, ◌^◌, min, List, map, length, false, slice_index_or}
 use Rattle.std.specs.List.{AllByRecursion}
 use Rattle.cert_kit.specs.declared.row.PRow.{PRow}
 use Rattle.cert_kit.specs.Row.{Solves, HasNoSolution}
@@ -17,6 +17,10 @@ named rows = record { clause = record { rows = named_rows (variables_of rows) ro
 -- one for each alternative, in order; equal ones stay
 abbrev pub clauses_of : ZGoal → List Named
 clauses_of z = map named (alternatives_of z)
+
+-- how many there are, 2^64 - 1 where there are more
+abbrev pub number_of : ZGoal → ℕ
+number_of z = min (length (clauses_of z)) (2 ^ 64 - 1)
 
 -- a point of the goal seen by a clause's variables: each has the value of what it is in the goal
 abbrev pub seen_by : List ℕ → Point → Point

@@ -1,15 +1,13 @@
 -- Rows with their variables renumbered from 0, in order and without doubles.
 use Rattle.std.specs.Prelude.{ℕ, List, [], ◌∷◌, map, nat_eq}
 use Rattle.std.specs.List.{flat_map, position_or_len}
-use Rattle.std.specs.Ordering.{nat_cmp, ordering_then}
+use Rattle.std.specs.Ordering.{nat_cmp}
 use Rattle.std.specs.declared.cmp.Ordering.{Ordering}
 use Rattle.std.specs.declared.cmp.Ordering.TheVariants.{Less, Equal, Greater}
 use Rattle.mm_poly.specs.declared.term.Term.{Term}
-use Rattle.mm_poly.specs.Poly.{poly_cmp}
 use Rattle.mm_poly.specs.Renaming.{renamed}
-use Rattle.cert_kit.specs.declared.row.Op.{Op}
-use Rattle.cert_kit.specs.declared.row.Op.TheVariants as ops
 use Rattle.cert_kit.specs.declared.row.PRow.{PRow}
+use Rattle.cert_kit.specs.Order.{row_cmp}
 
 -- an element at its place in a list, or the list where it has it
 abbrev pub with_element : {A : Type 0} → (A → A → Ordering) → A → List A → List A
@@ -40,17 +38,6 @@ place_of vars v = position_or_len (nat_eq v) vars
 
 abbrev pub renamed_row : (ℕ → ℕ) → PRow → PRow
 renamed_row r row = record { poly = renamed r row.poly; op = row.op }
-
--- `>=` before `=`
-abbrev pub op_cmp : Op → Op → Ordering
-op_cmp ops.Ge ops.Ge = Equal
-op_cmp ops.Ge ops.Eq = Less
-op_cmp ops.Eq ops.Ge = Greater
-op_cmp ops.Eq ops.Eq = Equal
-
--- by the polynomial, and then by how it compares to 0
-abbrev pub row_cmp : PRow → PRow → Ordering
-row_cmp r s = ordering_then (poly_cmp r.poly s.poly) (op_cmp r.op s.op)
 
 -- the rows over the renumbered variables, in order, each once
 abbrev pub named_rows : List ℕ → List PRow → List PRow

@@ -2,3 +2,4 @@ pub mod Tally
 pub mod Fitting
 pub mod Plan
 pub mod Walk
+pub mod Numbering

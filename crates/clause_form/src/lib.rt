@@ -6,16 +6,21 @@
 //! clause has an integer solution.
 #![tactic(auto)]
 
-mod key;
+mod clause_list;
+mod fail;
+mod keys;
 mod law;
 mod named;
+mod naming;
 mod plan;
 mod poly;
 mod row;
 mod tally;
 mod walk;
 
-pub use key::key_name;
+pub use clause_list::{CLAUSE_LIMIT, clauses};
+pub use fail::ClauseFail;
+pub use keys::{equal_keys, key, key_name};
 pub use law::{bounds, refutation};
 pub use named::Named;
 pub use tally::{Tally, count, count_clauses};

@@ -1,10 +1,11 @@
-ghost use Rattle.std.specs.Prelude.{◌≡◌, IfOk};
+ghost use Rattle.std.specs.Prelude.{◌≡◌, map, reverse, All, IfOk};
 ghost use Rattle.goal_measure.specs.Measure.{of_atom};
-ghost use Rattle.zify.specs.Measure.{measure_of, greatest_in};
+ghost use Rattle.zify.specs.declared.form.ZForm.{ZForm as Form};
+ghost use Rattle.zify.specs.Measure.{measure_of, greatest_in, IsWithinLimits as GoalWithinLimits};
 ghost use Rattle.clause_form.specs.Polynomial.{IsWithinLimits};
 ghost use Rattle.clause_form.specs.Alternatives.{comparison, opposite, ComparisonHasRoom};
 ghost use Rattle.clause_form.specs.machine.Tally.{of_comparison};
-ghost use Rattle.clause_form.specs.machine.Plan.{planned, right_plan, made_by, made_constant, made_atom, made_not, made_both, made_same, made};
+ghost use Rattle.clause_form.specs.machine.Plan.{planned, right_plan, made_by, made_constant, made_atom, made_not, made_both, made_same, made, made_part, made_parts, made_goal};
 
 use crate::poly::polynomial;
 use crate::row::comparison;
@@ -14,7 +15,7 @@ use goal_ast::Cmp;
 use mm_poly::Poly;
 use sqlite_items::{Boxed, Items};
 use std::alloc::{AllocError, Global};
-use zify::{ZForm, ZTerm};
+use zify::{ZForm, ZGoal, ZTerm};
 
 // A formula with its atoms' rows, and beside each part how many alternatives it has.
 #[derive(Debug, Drop)]
@@ -32,6 +33,13 @@ pub(crate) enum Plan {
 pub(crate) struct Counted {
     pub tally: Tally,
     pub plan: Boxed<Plan>,
+}
+
+// The plan of a hypothesis or of what is not the body, and how many alternatives all that comes after it has.
+#[derive(Debug, Drop)]
+pub(crate) struct Part {
+    pub plan: Boxed<Plan>,
+    pub others: u64,
 }
 
 // The plan of a formula whose atoms are within the limits.
@@ -66,6 +74,41 @@ pub(crate) fn plan_of(alloc: Global, form: &ZForm) -> Result<Counted, AllocError
             equivalence(alloc, first, second)
         }
     }
+}
+
+// The plans of the hypotheses of a goal, and last of what is not its body.
+#[tactic(auto, using(crate::proofs::GoalPlanLaws::body_within, crate::proofs::GoalPlanLaws::hypotheses_within))]
+pub(crate) fn parts_of(alloc: Global, goal: &ZGoal) -> Result<Vec<Part>, AllocError>
+    requires { GoalWithinLimits goal.now }
+    ensures { IfOk result (λ parts. map made_part parts.items ≡ made_goal goal.now) }
+{
+    let body = plan_of(alloc, &goal.body)?;
+    let last = negation(alloc, body)?;
+    let mut parts = parts_back(alloc, goal.hyps.as_slice(), last)?;
+    parts.reverse();
+    Ok(parts)
+}
+
+// The last part and the hypotheses, from the last one on.
+fn parts_back(alloc: Global, hyps: &[ZForm], last: Counted) -> Result<Vec<Part>, AllocError>
+    requires { All (λ (h : Form). IsWithinLimits (greatest_in h)) hyps.now }
+    ensures { IfOk result (λ parts. map made_part (reverse parts.items) ≡ made_parts hyps.now (made_by last)) }
+{
+    let mut parts = Vec::with_capacity(alloc, hyps.len().saturating_add(1))?;
+    let mut others = last.tally.holds;
+    parts.push(Part {
+        plan: last.plan,
+        others: 1,
+    })?;
+    for n in (0..hyps.len()).rev() {
+        let hyp = plan_of(alloc, &hyps[n])?;
+        parts.push(Part {
+            plan: hyp.plan,
+            others,
+        })?;
+        others = others.saturating_mul(hyp.tally.holds);
+    }
+    Ok(parts)
 }
 
 fn constant(alloc: Global, value: bool) -> Result<Counted, AllocError>

@@ -1,6 +1,6 @@
 ghost use Rattle.std.specs.Prelude.{◌≡◌, ◌^◌, ◌-◌, ◌*◌, min, length};
 ghost use Rattle.clause_form.specs.Alternatives.{sides_of};
-ghost use Rattle.clause_form.specs.Clauses.{clauses_of};
+ghost use Rattle.clause_form.specs.Clauses.{number_of};
 ghost use Rattle.clause_form.specs.machine.Tally.{joint_number, tally_of, of_both, of_same, of_comparison, negated};
 
 use goal_ast::Cmp;
@@ -27,7 +27,7 @@ pub fn count(form: &ZForm) -> Tally
 /// Counts the clauses of a goal. A number of more than `u64::MAX` is given as that.
 #[tactic(auto, using(crate::proofs::TallyLaws::goal_counted))]
 pub fn count_clauses(goal: &ZGoal) -> u64
-    ensures { result ≡ min (length (clauses_of goal.now)) (2 ^ 64 - 1) }
+    ensures { result ≡ number_of goal.now }
 {
     with_hypotheses(count(&goal.body).fails, goal.hyps.as_slice())
 }

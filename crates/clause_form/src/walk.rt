@@ -1,94 +1,94 @@
 ghost use Rattle.std.specs.Prelude.{◌≡◌, ◌++◌, OnOk};
-ghost use Rattle.clause_form.specs.machine.Walk.{walk, side_of, quotient, remainder, row_at, walk_rows};
+ghost use Rattle.clause_form.specs.machine.Walk.{lent, walk_all, walk, side_of, quotient, remainder, row_at, walk_rows};
 
-use crate::plan::Plan;
+use crate::plan::{Part, Plan};
 use crate::tally::Tally;
 use cert_kit::PRow;
-use std::alloc::{AllocError, Global};
+use std::alloc::AllocError;
 
-// Appends copies of the rows of the alternative at a place, among those of the formula or of its negation.
-pub(crate) fn append(
-    alloc: Global,
-    plan: &Plan,
+// Appends the rows of the alternative at a place, among those of all parts together.
+pub(crate) fn append_all<'p>(
+    parts: &'p [Part],
+    place: u64,
+    rows: &mut Vec<&'p PRow>,
+) -> Result<(), AllocError>
+    ensures { OnOk result (lent rows.new.items ≡ lent rows.old.items ++ walk_all parts.now place) }
+{
+    let mut place = place;
+    for part in parts {
+        append(part.plan.get(), true, quotient(place, part.others), rows)?;
+        place = remainder(place, part.others);
+    }
+    Ok(())
+}
+
+// Appends the rows of the alternative at a place, among those of the formula or of its negation.
+fn append<'p>(
+    plan: &'p Plan,
     holds: bool,
     place: u64,
-    rows: &mut Vec<PRow>,
+    rows: &mut Vec<&'p PRow>,
 ) -> Result<(), AllocError>
-    ensures { OnOk result (rows.new.items ≡ rows.old.items ++ walk plan.now holds place) }
+    ensures { OnOk result (lent rows.new.items ≡ lent rows.old.items ++ walk plan.now holds place) }
 {
     match plan {
         Plan::Constant(_) => Ok(()),
         Plan::Rows(held, failed) => {
-            append_row(
-                alloc,
-                held.as_slice(),
-                failed.as_slice(),
-                holds,
-                place,
-                rows,
-            )
+            append_row(held.as_slice(), failed.as_slice(), holds, place, rows)
         }
-        Plan::Not(part) => append(alloc, part.get(), !holds, place, rows),
+        Plan::Not(part) => append(part.get(), !holds, place, rows),
         Plan::Both(_, count, first, second) if holds => {
             let number = count.holds;
-            append(alloc, first.get(), true, quotient(place, number), rows)?;
-            append(alloc, second.get(), true, remainder(place, number), rows)
+            append(first.get(), true, quotient(place, number), rows)?;
+            append(second.get(), true, remainder(place, number), rows)
         }
         Plan::Both(count, _, first, second) => {
             if place < count.fails {
-                append(alloc, first.get(), false, place, rows)
+                append(first.get(), false, place, rows)
             } else {
-                append(alloc, second.get(), false, place - count.fails, rows)
+                append(second.get(), false, place - count.fails, rows)
             }
         }
         Plan::Same(count, other, first, second) => {
             let number = other.side(holds);
             let both = count.holds.saturating_mul(number);
             if place < both {
-                append(alloc, first.get(), true, quotient(place, number), rows)?;
-                append(alloc, second.get(), holds, remainder(place, number), rows)
+                append(first.get(), true, quotient(place, number), rows)?;
+                append(second.get(), holds, remainder(place, number), rows)
             } else {
                 let rest = place - both;
                 let number = other.side(!holds);
-                append(alloc, first.get(), false, quotient(rest, number), rows)?;
-                append(alloc, second.get(), !holds, remainder(rest, number), rows)
+                append(first.get(), false, quotient(rest, number), rows)?;
+                append(second.get(), !holds, remainder(rest, number), rows)
             }
         }
     }
 }
 
-fn append_row(
-    alloc: Global,
-    held: &[PRow],
-    failed: &[PRow],
+fn append_row<'p>(
+    held: &'p [PRow],
+    failed: &'p [PRow],
     holds: bool,
     place: u64,
-    rows: &mut Vec<PRow>,
+    rows: &mut Vec<&'p PRow>,
 ) -> Result<(), AllocError>
-    ensures { OnOk result (rows.new.items ≡ rows.old.items ++ walk_rows held.now failed.now holds place) }
+    ensures { OnOk result (lent rows.new.items ≡ lent rows.old.items ++ walk_rows held.now failed.now holds place) }
 {
     if holds {
-        append_at(alloc, held, place, rows)
+        append_at(held, place, rows)
     } else {
-        append_at(alloc, failed, place, rows)
+        append_at(failed, place, rows)
     }
 }
 
-#[tactic(auto, using(crate::proofs::WalkLaws::none_there, crate::proofs::WalkLaws::one_there))]
-fn append_at(
-    alloc: Global,
-    from: &[PRow],
-    place: u64,
-    rows: &mut Vec<PRow>,
-) -> Result<(), AllocError>
-    ensures { OnOk result (rows.new.items ≡ rows.old.items ++ row_at from.now place) }
+fn append_at<'p>(from: &'p [PRow], place: u64, rows: &mut Vec<&'p PRow>) -> Result<(), AllocError>
+    ensures { OnOk result (lent rows.new.items ≡ lent rows.old.items ++ row_at from.now place) }
 {
     let place = place as usize;
     if place >= from.len() {
         return Ok(());
     }
-    let row = from[place].copy(alloc)?;
-    rows.push(row)?;
+    rows.push(&from[place])?;
     Ok(())
 }
 

@@ -1,15 +1,17 @@
 -- Plans: what their alternatives are, and whether the numbers in them are right.
-use Rattle.std.specs.Prelude.{◌-◌, ◌^◌, ◌==◌, min, [], ◌∷◌, ◌++◌, map, length, Bool, true, false, ◌&&◌}
+use Rattle.std.specs.Prelude.{ℕ, ◌-◌, ◌^◌, ◌==◌, min, List, [], ◌∷◌, ◌++◌, map, length, Bool, true, false, ◌&&◌}
 use Rattle.clause_form.specs.declared.tally.Tally.{Tally}
 use Rattle.clause_form.specs.declared.plan.Plan.{Plan}
 use Rattle.clause_form.specs.declared.plan.Counted.{Counted}
+use Rattle.clause_form.specs.declared.plan.Part.{Part}
 use Rattle.goal_ast.specs.declared.formula.Cmp.{Cmp}
 use Rattle.zify.specs.declared.term.ZTerm.{ZTerm}
 use Rattle.zify.specs.declared.form.ZForm.{ZForm}
+use Rattle.zify.specs.declared.goal.ZGoal.{ZGoal}
 use Rattle.zify.specs.declared.form.ZForm.TheOpen.{ZForm-F}
 use Rattle.zify.specs.declared.form.ZForm.TheFolds.{fold-ZForm}
 use Rattle.clause_form.specs.Polynomial.{poly_of}
-use Rattle.clause_form.specs.machine.Tally.{negated, of_comparison, of_both, of_same}
+use Rattle.clause_form.specs.machine.Tally.{product, negated, of_comparison, of_both, of_same}
 use Rattle.clause_form.specs.declared.plan.Plan.TheOpen.{Plan-F}
 use Rattle.clause_form.specs.declared.plan.Plan.TheFolds.{fold-Plan}
 use Rattle.clause_form.specs.Alternatives.{Sides, alone, comparison, opposite, pairs}
@@ -99,3 +101,25 @@ made_level (ZForm-F.Iff f g) = made_same f g
 
 abbrev pub made : ZForm → Made
 made = fold-ZForm Made made_level
+
+-- a part of a goal, with how many alternatives all that comes after it has
+pub record MadePart : Type 0 where
+  pub plan : Planned
+  pub others : ℕ
+
+abbrev pub made_part : Part → MadePart
+made_part p = record { plan = planned p.plan; others = p.others }
+
+-- how many alternatives hypotheses and a last part have together
+abbrev pub joint_others : List ZForm → Made → ℕ
+joint_others [] last = last.tally.holds
+joint_others (h ∷ hs) last = product (joint_others hs last) (made h).tally.holds
+
+-- hypotheses and a last part
+abbrev pub made_parts : List ZForm → Made → List MadePart
+made_parts [] last = record { plan = last.plan; others = 1 } ∷ []
+made_parts (h ∷ hs) last = record { plan = (made h).plan; others = joint_others hs last } ∷ made_parts hs last
+
+-- the hypotheses and not the body
+abbrev pub made_goal : ZGoal → List MadePart
+made_goal z = made_parts z.hyps (made_not (made z.body))

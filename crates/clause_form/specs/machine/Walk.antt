@@ -1,13 +1,19 @@
 -- The alternative at a place, found by the numbers in a plan.
-use Rattle.std.specs.Prelude.{ℕ, ◌-◌, ◌/◌, ◌%◌, ◌==◌, nat_lt, List, [], ◌++◌, Bool, true, false, not, slice_get, if◌then◌else◌}
+use Rattle.std.specs.Prelude.{ℕ, ◌-◌, ◌/◌, ◌%◌, ◌==◌, nat_lt, List, [], ◌∷◌, ◌++◌, map, Bool, true, false, not, slice_get, if◌then◌else◌}
+use Rattle.std.specs.Borrow.{Bor}
 use Rattle.std.specs.Option.{option_to_list}
 use Rattle.cert_kit.specs.declared.row.PRow.{PRow}
 use Rattle.clause_form.specs.declared.tally.Tally.{Tally}
 use Rattle.clause_form.specs.declared.plan.Plan.{Plan}
+use Rattle.clause_form.specs.declared.plan.Part.{Part}
 use Rattle.clause_form.specs.declared.plan.Plan.TheOpen.{Plan-F}
 use Rattle.clause_form.specs.declared.plan.Plan.TheFolds.{fold-Plan}
 use Rattle.clause_form.specs.Alternatives.{Sides}
 use Rattle.clause_form.specs.machine.Tally.{product}
+
+-- rows that are lent
+abbrev pub lent : List (Bor PRow) → List PRow
+lent rows = map (λ r. r.now) rows
 
 abbrev pub Walk : Type 0
 Walk = Bool → ℕ → List PRow
@@ -54,3 +60,8 @@ walk_level (Plan-F.Same t u p q) s k = walk_same t u p q s k
 
 abbrev pub walk : Plan → Walk
 walk = fold-Plan Walk walk_level
+
+-- of all parts together
+abbrev pub walk_all : List Part → ℕ → List PRow
+walk_all [] k = []
+walk_all (p ∷ ps) k = walk p.plan true (quotient k p.others) ++ walk_all ps (remainder k p.others)

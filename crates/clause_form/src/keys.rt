@@ -1,8 +1,28 @@
-ghost use Rattle.std.specs.Prelude.{◌≡◌, ◌<◌, ◌/◌, length, slice_index, EachIndex};
+ghost use Rattle.std.specs.Prelude.{◌≡◌, ◌<◌, ◌/◌, ◌^◌, length, slice_index, EachIndex, IfOk};
 ghost use Rattle.sha2.specs.Sha256.{sha256};
+ghost use Rattle.cert_kit.specs.Bytes.{rows_bytes};
 ghost use Rattle.clause_form.specs.Key.{hex_digit, hex_digit_at};
 
+use cert_kit::{Clause, one_key, rows_bytes};
 use sha2::{Digest, Sha256};
+use std::alloc::{AllocError, Global};
+
+/// The key of a clause with fewer than 2^32 rows: how many there are, and the bytes of each.
+pub fn key(alloc: Global, clause: &Clause) -> Result<Vec<u8>, AllocError>
+    requires { length clause.now.rows < 2 ^ 32 }
+    ensures { IfOk result (λ bytes. bytes.items ≡ rows_bytes clause.now.rows) }
+{
+    rows_bytes(alloc, clause.rows.as_slice())
+}
+
+/// Clauses with equal keys are equal.
+pub fn equal_keys(clause: &Clause, other: &Clause)
+    requires rows { length clause.now.rows < 2 ^ 32 }
+    requires others { length other.now.rows < 2 ^ 32 }
+    ensures { rows_bytes clause.now.rows ≡ rows_bytes other.now.rows → clause.now ≡ other.now }
+{
+    one_key(clause.rows.as_slice(), other.rows.as_slice());
+}
 
 /// The name of a key: the first 16 hexadecimal digits of its SHA-256 (FIPS 180-4), in lower case.
 pub fn key_name(key: &[u8]) -> [u8; 16]

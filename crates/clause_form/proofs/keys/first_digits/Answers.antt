@@ -1,5 +1,5 @@
 use Rattle.std.proofs.Common.{◌≢◌, ◌∙◌, ◌<◌, length, arith, get_or-set_other, get_or-set_same, length-set, below_more}
-use Rattle.clause_form.proofs.key.first_digits.Goals as goal
+use Rattle.clause_form.proofs.keys.first_digits.Goals as goal
 
 pub loop-place-preserved : goal.loop-place-preserved
 loop-place-preserved c = record {

@@ -1,0 +1,7 @@
+use Rattle.std.proofs.Common.{◌≡◌, ◌++◌, drop}
+use Rattle.clause_form.specs.Naming.{poly_variables}
+use Rattle.clause_form.proofs.naming.push_variables.Given as goal
+
+-- what is out, and the terms that are left
+abbrev pub invariant-loop-term : goal.invariant-loop-term
+invariant-loop-term l = l.vars.items ++ poly_variables (drop l.term-index l.terms) ≡ l.fn.vars.items ++ poly_variables l.terms

@@ -1,0 +1,10 @@
+use Rattle.std.proofs.Common.{drop, ap, arith}
+use Rattle.std.proofs.lemmas.List.{drop_all}
+use Rattle.std.proofs.lemmas.List.Filters.{dedup_is}
+use Rattle.clause_form.specs.machine.Walk.{lent}
+use Rattle.clause_form.proofs.SortLaws.{variables_once}
+use Rattle.clause_form.proofs.naming.variables.Goals as goal
+
+pub returns : goal.returns
+returns c = variables_once (lent c.args.rows.now) (lent (drop c.loop-row.row-index c.args.rows.now)) _ _ _ (ap lent (drop_all c.loop-row.row-index c.args.rows.now (omega arith))) c.loop-row.invariant
+    c.sort_unstable.ensures.permutation c.sort_unstable.ensures.sorted (dedup_is _ _ _ c.dedup.ensures.filtered)

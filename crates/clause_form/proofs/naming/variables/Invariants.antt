@@ -1,0 +1,8 @@
+use Rattle.std.proofs.Common.{◌≡◌, ◌++◌, drop}
+use Rattle.clause_form.specs.Naming.{row_variables}
+use Rattle.clause_form.specs.machine.Walk.{lent}
+use Rattle.clause_form.proofs.naming.variables.Given as goal
+
+-- what is out, and the rows that are left
+abbrev pub invariant-loop-row : goal.invariant-loop-row
+invariant-loop-row l = l.vars.items ++ row_variables (lent (drop l.row-index l.rows)) ≡ row_variables (lent l.rows)
