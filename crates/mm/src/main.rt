@@ -5,11 +5,16 @@
 
 mod stream;
 
+ghost use Rattle.std.specs.Prelude.{◌≡◌, [], Ok, IfOk, IfErr, IsOkAnd};
+ghost use Rattle.std.specs.IoError.{error_kind};
+
 use mm_io::MemDisk;
 use mm_run::{Caches, OUT_OF_MEMORY, OpenGate, run};
+use std::alloc::Global;
+use std::env;
+use std::io::{self, ErrorKind};
 use std::process::ExitCode;
 use std::rt::Env;
-use std::{env, io};
 use stream::{StdinSource, StdoutSink};
 
 // The words after the program's name.
@@ -21,9 +26,20 @@ fn words_of(rt: &(impl Env + AllocGlobal)) -> io::Result<Vec<String>> {
     Ok(words)
 }
 
+// Words that can be read; none where one isn't UTF-8, since no command has such a word.
+fn readable(alloc: Global, words: io::Result<Vec<String>>) -> io::Result<Vec<String>>
+    ensures read { IfOk words (λ found. result ≡ Ok found) }
+    ensures faulty { IfErr words (λ e. error_kind e ≡ ErrorKind.InvalidData → IsOkAnd result (λ none. none.items ≡ [])) }
+{
+    match words {
+        Err(error) if error.kind() == ErrorKind::InvalidData => Ok(Vec::new(alloc)),
+        words => words,
+    }
+}
+
 fn main(rt: HostRuntime) -> ExitCode {
     let alloc = rt.alloc();
-    let Ok(words) = words_of(&rt) else {
+    let Ok(words) = readable(alloc, words_of(&rt)) else {
         return ExitCode::from(OUT_OF_MEMORY);
     };
     let caches = Caches {

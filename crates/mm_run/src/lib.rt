@@ -11,6 +11,3 @@ mod top;
 pub use ending::Ending;
 pub use gate::OpenGate;
 pub use top::{Caches, Ended, OUT_OF_MEMORY, RunFail, run};
-
-#[cfg(test)]
-mod tests;

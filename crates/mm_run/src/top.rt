@@ -1,6 +1,7 @@
-ghost use Rattle.std.specs.Prelude.{◌≡◌, ◌+◌, ◌^◌, ◌<◌, ◌≤◌, ◌⊎◌, ◌↔◌, List, [], map, length, IsTrue, IfOk, IfSome, IsErrOf, string_bytes};
+ghost use Rattle.std.specs.Prelude.{◌≡◌, ◌+◌, ◌^◌, ◌<◌, ◌≤◌, ◌⊎◌, ◌↔◌, List, [], map, length, IsTrue, IsOk, IfOk, IfSome, IsSomeAnd, IsErrOf, string_bytes};
 ghost use Rattle.std.specs.Io.KnownBytes.{Appends, IsAtEnd};
 ghost use Rattle.mm_io.specs.Cause.{HasRisen};
+ghost use Rattle.mm_io.specs.Reading.{TakesAtMost};
 ghost use Rattle.mm_io.specs.Writing.{AppendsPrefix};
 ghost use Rattle.mm_run.specs.Ending.{IsCheckWord, CallsFor, TextCallsFor, Ends, WritesPrefix, IsWhole, IsUnsolvable, IsRefused, IsEndingStatus, line_of, status_of};
 
@@ -60,8 +61,12 @@ pub fn run<R: Threads + Sync, S: Source, K: Sink, D: Disk + Send, G: Gate + Sync
     ensures sound { result.status ≡ 0 → IfSome (S.left goals.old) IsUnsolvable }
     // A refusal comes wherever it should.
     ensures refused { IsWhole result.status → IsRefused (map string_bytes words.now) (S.left goals.old) → result.status ≡ 2 }
-    // A verdict is written after the input was read to its end.
+    // A verdict is written after the input was read to its end; so is a place, where the input is known not to be too long.
     ensures read { result.status < 2 → IsAtEnd (S.left goals.new) }
+    ensures whole { IsWhole result.status → IsCheckWord (map string_bytes words.now) → IsSomeAnd (S.left goals.old) (λ bytes. length bytes ≤ 2 ^ 28) → IsAtEnd (S.left goals.new) }
+    // At most one byte past 256 MiB is taken, and none for the usage line.
+    ensures taken { TakesAtMost (2 ^ 28 + 1) (S.left goals.old) (S.left goals.new) }
+    ensures untouched { (IsCheckWord (map string_bytes words.now) → ⊥) → S.left goals.new ≡ S.left goals.old }
 
     ensures memory { result.status ≡ 3 → Appends (K.written out.old) (K.written out.new) [] }
     ensures fault { result.status ≡ 5 → HasRisen (S.faults goals.old) (S.faults goals.new) ⊎ HasRisen (K.faults out.old) (K.faults out.new) }
@@ -84,6 +89,9 @@ pub fn run<R: Threads + Sync, S: Source, K: Sink, D: Disk + Send, G: Gate + Sync
 fn ending_of<S: Source>(alloc: Global, words: &[String], goals: &mut S) -> Result<Ending, RunFail>
     ensures due { IfOk result (CallsFor (map string_bytes words.now) (S.left goals.old)) }
     ensures read { IfOk result (λ ending. status_of ending < 2 → IsAtEnd (S.left goals.new)) }
+    ensures whole { IsOk result → IsCheckWord (map string_bytes words.now) → IsSomeAnd (S.left goals.old) (λ bytes. length bytes ≤ 2 ^ 28) → IsAtEnd (S.left goals.new) }
+    ensures taken { TakesAtMost (2 ^ 28 + 1) (S.left goals.old) (S.left goals.new) }
+    ensures untouched { (IsCheckWord (map string_bytes words.now) → ⊥) → S.left goals.new ≡ S.left goals.old }
     ensures fault { IsErrOf result RunFail.Device → HasRisen (S.faults goals.old) (S.faults goals.new) }
     ensures kept { S.faults goals.old ≤ S.faults goals.new }
 {
