@@ -1,0 +1,48 @@
+-- A multiple by 1, and a row with its unknown taken out.
+use Rattle.std.specs.Prelude.{◌≡◌, ℕ, ◌+◌, ◌*◌, ◌^◌, ◌<◌, ◌≤◌, ℤ, pos, ◌*ℤ◌, neg_ℤ, unsigned_abs, List, [], ◌∷◌, Bool, true, false, ◌||◌, ◌&&◌, nat_lt, nat_le, refl}
+use Rattle.std.proofs.Common.{ap, sym, ◌∙◌, subst, arith}
+use Rattle.std.specs.Ordering.{int_eq}
+use Rattle.std.proofs.lemmas.Bool.{and_parts}
+use Rattle.mm_poly.specs.declared.term.Term.{Term}
+use Rattle.mm_poly.specs.Poly.{IsPoly, norm, spread, coeff_of, with_coeff, plus, scaled}
+use Rattle.mm_poly.proofs.SumLaws.{with_nonzero}
+use Rattle.mm_poly.proofs.ValueLaws.{one_mul}
+use Rattle.cert_kit.specs.declared.row.PRow.{PRow}
+use Rattle.cert_kit.specs.Meaning.{at_least_0}
+use Rattle.fm_elim.specs.Unknowns.{coeff_in}
+use Rattle.fm_elim.specs.Steps.{has_room, substituted, solve_has_room}
+
+pub one_scaled : (p : List Term) → IsPoly p → scaled (pos 1) p ≡ p
+one_scaled [] h = refl
+one_scaled (t ∷ ts) h =
+    ap (λ c. with_coeff c t.mono (scaled (pos 1) ts)) (one_mul t.coeff) ∙ ap (λ (q : List Term). with_coeff t.coeff t.mono q) (one_scaled ts h.2)
+    ∙ with_nonzero t.coeff t.mono ts h.0
+
+-- a sum that is made has the form that is asked for
+pub with_one : (q : PRow) (r : PRow) (p : List Term) (times : ℤ) → IsPoly r.poly → q.poly ≡ plus (scaled (pos 1) r.poly) (scaled times p) → q.op ≡ r.op
+    → q ≡ record { poly = plus r.poly (scaled times p); op = r.op }
+with_one q r p times h e o =
+    ap (λ s. let a : PRow = record { poly = s; op = q.op } in a) (e ∙ ap (λ (s : List Term). plus s (scaled times p)) (one_scaled r.poly h))
+    ∙ ap (λ k. let a : PRow = record { poly = plus r.poly (scaled times p); op = k } in a) o
+
+-- the room that the limits leave for a row with the unknown
+pub record HasRoomFor (r : PRow) (c : ℤ) (p : List Term) : Type 0 where
+  pub norm_room : norm r.poly * 1 + norm p * unsigned_abs c < 2 ^ 126
+  pub spread_room : spread r.poly + spread p ≤ 65536
+
+pub room_for : (u : List (ℕ × ℕ)) (p : List Term) (r : PRow) → solve_has_room u p (r ∷ []) ≡ true → int_eq (coeff_in u r) (pos 0) ≡ false → HasRoomFor r (coeff_in u r) p
+room_for u p r e n =
+    let b = and_parts (int_eq (coeff_in u r) (pos 0) || has_room 1 r.poly (unsigned_abs (coeff_in u r)) p) true e in
+    let room = ap (λ b. b || has_room 1 r.poly (unsigned_abs (coeff_in u r)) p) (sym n) ∙ b.0 in
+    let parts = and_parts (nat_lt (norm r.poly * 1 + norm p * unsigned_abs (coeff_in u r)) (2 ^ 126)) (nat_le (spread r.poly + spread p) 65536) room in
+    record { norm_room = below _ _ parts.0; spread_room = at_most _ _ parts.1 }
+  where
+    below : (m n : ℕ) → nat_lt m n ≡ true → m < n
+    below m n e = grind arith
+
+    at_most : (m n : ℕ) → nat_le m n ≡ true → m ≤ n
+    at_most m n e = grind arith
+
+pub taken_out : (u : List (ℕ × ℕ)) (p : List Term) (r : PRow) (times : ℤ) → int_eq (coeff_in u r) (pos 0) ≡ false → times ≡ neg_ℤ (coeff_of r.poly u *ℤ coeff_of p u)
+    → substituted u p r ≡ record { poly = plus r.poly (scaled times p); op = r.op }
+taken_out u p r times n e = rw n (ap (λ k. let a : PRow = record { poly = plus r.poly (scaled k p); op = r.op } in a) (sym e))

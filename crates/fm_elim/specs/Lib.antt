@@ -1,0 +1,6 @@
+pub mod Unknowns
+pub mod Tidy
+pub mod Steps
+pub mod Elimination
+pub mod Points
+pub mod machine

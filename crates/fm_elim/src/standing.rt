@@ -1,0 +1,127 @@
+ghost use Rattle.std.specs.Prelude.{◌≡◌, ◌<◌, length, ◌∷◌, [], IfOk};
+ghost use Rattle.std.specs.List.{AllByRecursion};
+ghost use Rattle.fm_elim.specs.Tidy.{tidied};
+ghost use Rattle.fm_elim.specs.Steps.{halved};
+ghost use Rattle.fm_elim.specs.machine.Sides.{IsSide, sides_of, sums_of};
+ghost use Rattle.fm_elim.specs.machine.Halves.{half_of, other_half_of, parts_at};
+ghost use Rattle.fm_elim.specs.machine.Tidying.{rows_of, Goes, StepsTo, then_tidied};
+
+use crate::kept::Kept;
+use crate::live::Live;
+use crate::log::{Log, Origin, Source};
+use crate::pairs::{pairs_have_room, take_all_sums};
+use crate::sides::Side;
+use crate::stepped::Stepped;
+use cert_kit::{Op, PRow};
+use mm_poly::Mono;
+use std::alloc::{AllocError, Global};
+
+/// The rows without an unknown and the sums of its pairs, tidied.
+pub fn eliminate(
+    alloc: Global,
+    log: &mut Log,
+    without: Vec<Live>,
+    lowers: &[Side],
+    uppers: &[Side],
+    unknown: &Mono,
+) -> Result<Stepped, AllocError>
+    requires lowers { AllByRecursion (IsSide unknown.now) lowers.now }
+    requires uppers { AllByRecursion (IsSide unknown.now) uppers.now }
+    ensures { IfOk result (λ s. StepsTo s (then_tidied (sums_of unknown.now (rows_of without.items) (sides_of lowers.now) (sides_of uppers.now)))) }
+{
+    if !pairs_have_room(unknown, lowers, uppers) {
+        return Ok(Stepped::Over);
+    }
+    let mut kept = Kept::new(alloc);
+    if take_standing(alloc, &mut kept, log, without)? {
+        return Ok(Stepped::Contra);
+    }
+    if take_all_sums(alloc, &mut kept, log, unknown, lowers, uppers)? {
+        return Ok(Stepped::Contra);
+    }
+    Ok(kept.end())
+}
+
+// Takes rows that stand, and answers whether one was found whose cut is constant and false.
+fn take_standing(
+    alloc: Global,
+    kept: &mut Kept,
+    log: &mut Log,
+    rows: Vec<Live>,
+) -> Result<bool, AllocError>
+    ensures { IfOk result (λ found. Goes found kept.old kept.new (rows_of rows.items)) }
+{
+    for live in rows {
+        if kept.take(alloc, log, live.row, Origin::Stands(live.number))? {
+            return Ok(true);
+        }
+    }
+    Ok(false)
+}
+
+/// The rows with the equality at a place as two inequalities, tidied.
+pub fn halve(
+    alloc: Global,
+    log: &mut Log,
+    rows: Vec<Live>,
+    place: usize,
+) -> Result<Stepped, AllocError>
+    requires { place < length rows.items }
+    ensures { IfOk result (λ s. StepsTo s (tidied (halved place (rows_of rows.items)))) }
+{
+    let mut kept = Kept::new(alloc);
+    let mut n = 0;
+    for live in rows {
+        if take_parts(alloc, &mut kept, log, live, n == place)? {
+            return Ok(Stepped::Contra);
+        }
+        n += 1;
+    }
+    Ok(kept.end())
+}
+
+// Takes a row, or both of its halves, and answers whether a cut was found that is constant and false.
+fn take_parts(
+    alloc: Global,
+    kept: &mut Kept,
+    log: &mut Log,
+    live: Live,
+    is_halved: bool,
+) -> Result<bool, AllocError>
+    ensures { IfOk result (λ found. Goes found kept.old kept.new (parts_at is_halved live.row)) }
+{
+    if !is_halved {
+        let found = kept.take(alloc, log, live.row, Origin::Stands(live.number))?;
+        return Ok(found);
+    }
+    let found = take_halves(alloc, kept, log, live)?;
+    Ok(found)
+}
+
+fn take_halves(
+    alloc: Global,
+    kept: &mut Kept,
+    log: &mut Log,
+    live: Live,
+) -> Result<bool, AllocError>
+    ensures { IfOk result (λ found. Goes found kept.old kept.new (half_of live.row ∷ other_half_of live.row ∷ [])) }
+{
+    let other = PRow {
+        poly: live.row.poly.copy(alloc)?.negated(),
+        op: Op::Ge,
+    };
+    let half = PRow {
+        poly: live.row.poly,
+        op: Op::Ge,
+    };
+    if kept.take(alloc, log, half, Origin::Made(Source::Half(live.number)))? {
+        return Ok(true);
+    }
+    let found = kept.take(
+        alloc,
+        log,
+        other,
+        Origin::Made(Source::OtherHalf(live.number)),
+    )?;
+    Ok(found)
+}

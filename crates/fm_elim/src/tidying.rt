@@ -1,0 +1,104 @@
+ghost use Rattle.std.specs.Prelude.{◌≡◌, List, [], ◌∷◌, ◌++◌, false, Some, Result, IfOk, OnOk};
+ghost use Rattle.cert_kit.specs.declared.row.PRow.{PRow};
+ghost use Rattle.fm_elim.specs.Tidy.{End, put};
+ghost use Rattle.fm_elim.specs.machine.Tidying.{rows_of, parallel_from, Stands, Feeds, IsTidying, StepsTo};
+
+use crate::kept::Kept;
+use crate::live::Live;
+use crate::log::{Log, Origin};
+use crate::parallel::{is_tighter, parallel_place};
+use crate::stepped::Stepped;
+use cert_kit::{PRow, false_row};
+use std::alloc::{AllocError, Global};
+
+// At most this many rows are left after tidying.
+const MOST_ROWS: usize = 512;
+
+impl Kept {
+    /// Nothing was taken yet.
+    pub fn new(alloc: Global) -> Kept
+        ensures { Stands result.is_over result.rows.items [] }
+    {
+        Kept {
+            rows: Vec::new(alloc),
+            is_over: false,
+        }
+    }
+
+    /// Takes a row, and answers whether its cut is constant and false. Such a row is the last one of the log.
+    pub fn take(
+        &mut self,
+        alloc: Global,
+        log: &mut Log,
+        row: PRow,
+        origin: Origin,
+    ) -> Result<bool, AllocError>
+        ensures { IfOk result (λ found. Feeds found self.old self.new (row ∷ [])) }
+    {
+        let row = row.into_cut(alloc)?;
+        if false_row(&row) {
+            log.close(origin)?;
+            return Ok(true);
+        }
+        if self.is_over || row.poly.is_constant() {
+            return Ok(false);
+        }
+        self.put(log, row, origin)?;
+        Ok(false)
+    }
+
+    /// What tidying comes to when nothing more comes.
+    pub fn end(self) -> Stepped
+        ensures { (answer : Result (List PRow) End) → IsTidying answer self [] → StepsTo result answer }
+    {
+        if self.is_over {
+            Stepped::Over
+        } else {
+            Stepped::Rows(self.rows)
+        }
+    }
+
+    // Keeps a row, unless a parallel one before it has a constant that isn't greater.
+    fn put(&mut self, log: &mut Log, row: PRow, origin: Origin) -> Result<(), AllocError>
+        requires { self.old.is_over ≡ false }
+        ensures { OnOk result (Stands self.new.is_over self.new.rows.items (put row (rows_of self.old.rows.items))) }
+    {
+        match parallel_place(&self.rows, &row) {
+            None => self.append(log, row, origin),
+            Some(place) => self.put_at(log, row, origin, place),
+        }
+    }
+
+    // Keeps a row in place of the one at a place, where it has the lesser constant.
+    fn put_at(
+        &mut self,
+        log: &mut Log,
+        row: PRow,
+        origin: Origin,
+        place: usize,
+    ) -> Result<(), AllocError>
+        requires over { self.old.is_over ≡ false }
+        requires parallel { parallel_from self.old.rows.items row 0 ≡ Some place }
+        ensures { OnOk result (Stands self.new.is_over self.new.rows.items (put row (rows_of self.old.rows.items))) }
+    {
+        if !is_tighter(&row, &self.rows[place].row) {
+            return Ok(());
+        }
+        self.rows.remove(place);
+        self.append(log, row, origin)
+    }
+
+    // Keeps a row after the others, where there is room.
+    fn append(&mut self, log: &mut Log, row: PRow, origin: Origin) -> Result<(), AllocError>
+        requires { self.old.is_over ≡ false }
+        ensures { OnOk result (Stands self.new.is_over self.new.rows.items (rows_of self.old.rows.items ++ row ∷ [])) }
+    {
+        if self.rows.len() >= MOST_ROWS {
+            self.is_over = true;
+            return Ok(());
+        }
+        let number = log.number(origin)?;
+        self.rows.push(Live { row, number })?;
+        Ok(())
+    }
+}
