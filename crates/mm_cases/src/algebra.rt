@@ -7,7 +7,7 @@ use mm_poly::{Poly, PolyFail};
 use std::alloc::{AllocError, Global};
 
 // The check of these bytes, if it is one.
-fn read(alloc: Global, bytes: &[u8]) -> Result<Option<(Clause, Cert)>, AllocError> {
+pub fn read(alloc: Global, bytes: &[u8]) -> Result<Option<(Clause, Cert)>, AllocError> {
     match read_check(alloc, bytes) {
         Ok(found) => Ok(Some(found)),
         Err(CheckText::Bad { .. }) => Ok(None),

@@ -34,6 +34,8 @@ pub enum Kind {
     Renamed,
     /// What the simplex answers to rows within some turns.
     Simplex,
+    /// The word of that answer alone.
+    End,
     /// The tokens of these bytes as a goal file.
     Tokens,
     /// How these bytes are read as a goal file, or why not.
@@ -48,6 +50,14 @@ pub enum Kind {
     Translate,
     /// How many clauses the goal has.
     Count,
+    /// The clauses of the goal.
+    Clauses,
+    /// The key of the clause of these rows, parted by `; `, in hexadecimal.
+    Key,
+    /// How many bytes that key has, and its name.
+    KeyName,
+    /// How two rows, parted by `; `, compare.
+    RowOrder,
 }
 
 /// A case: what is asked of which input, and the answer that is due.
@@ -75,6 +85,7 @@ fn kind_of(word: &str) -> Option<Kind> {
         "combination" => Some(Kind::Combination),
         "renamed" => Some(Kind::Renamed),
         "simplex" => Some(Kind::Simplex),
+        "end" => Some(Kind::End),
         "tokens" => Some(Kind::Tokens),
         "read" => Some(Kind::Read),
         "sort" => Some(Kind::Sort),
@@ -82,6 +93,10 @@ fn kind_of(word: &str) -> Option<Kind> {
         "show" => Some(Kind::Show),
         "translate" => Some(Kind::Translate),
         "count" => Some(Kind::Count),
+        "clauses" => Some(Kind::Clauses),
+        "key" => Some(Kind::Key),
+        "key-name" => Some(Kind::KeyName),
+        "row-order" => Some(Kind::RowOrder),
         _ => None,
     }
 }

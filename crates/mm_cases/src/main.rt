@@ -9,6 +9,7 @@
 mod algebra;
 mod case;
 mod check;
+mod clauses;
 mod goal;
 mod parts;
 mod reading;
@@ -43,12 +44,17 @@ fn answer_to<R: Threads + Sync>(rt: &R, alloc: Global, case: &Case) -> Result<Ve
         Kind::Combination => parts::combination(alloc, case.input),
         Kind::Renamed => parts::renamed(alloc, case.input),
         Kind::Simplex => simplex::answer(alloc, case.input),
+        Kind::End => simplex::end(alloc, case.input),
         Kind::Tokens => tokens::answer(alloc, &input_of(alloc, case.input)?),
         Kind::Read => reading::answer(alloc, &input_of(alloc, case.input)?),
         Kind::Sort => goal::printed(alloc, &input_of(alloc, case.input)?),
         Kind::Truth => goal::truth(alloc, case.input),
         Kind::Show => goal::shown(alloc, case.input),
         Kind::Translate => translated::answer(alloc, &input_of(alloc, case.input)?),
+        Kind::Clauses => clauses::answer(alloc, &input_of(alloc, case.input)?),
+        Kind::Key => clauses::key_text(alloc, case.input),
+        Kind::KeyName => clauses::name(alloc, case.input),
+        Kind::RowOrder => clauses::row_order(alloc, case.input),
         Kind::Count => translated::count(alloc, &input_of(alloc, case.input)?),
     }
 }
@@ -94,6 +100,3 @@ fn main(rt: HostRuntime) -> io::Result<()> {
     }
     println!(rt; "{cases} cases, {differ} differ")
 }
-
-#[cfg(test)]
-mod tests;

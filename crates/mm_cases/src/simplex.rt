@@ -172,3 +172,10 @@ pub fn answer(alloc: Global, input: &str) -> Result<Vec<u8>, AllocError> {
         None => no_rows(alloc),
     }
 }
+
+/// The word of the end that the simplex comes to within the turns.
+pub fn end(alloc: Global, input: &str) -> Result<Vec<u8>, AllocError> {
+    let answer = answer(alloc, input)?;
+    let word = answer.split(|b| *b == b' ').next().unwrap_or(b"");
+    Vec::from_slice(alloc, word)
+}

@@ -118,7 +118,7 @@ fn text_of(alloc: Global, z: &ZGoal) -> Result<Vec<u8>, AllocError> {
 }
 
 // What is answered for a goal that can't be translated.
-fn refusal(alloc: Global, why: ZFail) -> Result<Vec<u8>, AllocError> {
+pub fn refusal(alloc: Global, why: ZFail) -> Result<Vec<u8>, AllocError> {
     match why {
         ZFail::Weight => Vec::from_slice(alloc, b"weight"),
         ZFail::Spread => Vec::from_slice(alloc, b"spread"),
