@@ -14,7 +14,8 @@ use Rattle.cert_kit.specs.declared.cert.Psatz.{Psatz}
 use Rattle.cert_kit.specs.declared.cert.Psatz.TheOpen.{Psatz-F}
 use Rattle.cert_kit.specs.declared.cert.Psatz.TheViews.{roll-Psatz}
 use Rattle.cert_kit.specs.declared.cert.Psatz.TheFolds.{map-Psatz, fold-roll-Psatz, ind-Psatz}
-use Rattle.cert_kit.specs.Meaning.{Meaning, meaning, meaning_step, Bounds, Measure, Measuring, measure, measure_step, measure_of, own_bounds, no_bounds, constant_bounds, product_bounds, sum_bounds, are_within, product_row, sum_row, multiple_row, constant_row, at_least_0, equal_to_0}
+use Rattle.cert_kit.specs.declared.bounds.Bounds.{Bounds}
+use Rattle.cert_kit.specs.Meaning.{Meaning, meaning, meaning_step, Measure, Measuring, measure, measure_step, measure_of, own_bounds, no_bounds, constant_bounds, product_bounds, sum_bounds, are_within, product_row, sum_row, multiple_row, constant_row, at_least_0, equal_to_0}
 use Rattle.cert_kit.specs.FirstFault.{Walk, walk, walk_step, node_of, bounds_of, tested, tested_rule, row_at}
 
 -- a fault of a rule: there is no row; a fault of a bound: some node isn't within its own

@@ -15,7 +15,8 @@ use Rattle.cert_kit.specs.declared.cert.Close.TheOpen.{Close-F, Cert-F}
 use Rattle.cert_kit.specs.declared.cert.Close.TheFolds.{fold-Cert}
 use Rattle.cert_kit.specs.Row.{is_false}
 use Rattle.cert_kit.specs.Cut.{cut_of}
-use Rattle.cert_kit.specs.Meaning.{meaning, measure, Bounds, own_bounds, are_within, at_least_0, equal_to_0}
+use Rattle.cert_kit.specs.declared.bounds.Bounds.{Bounds}
+use Rattle.cert_kit.specs.Meaning.{meaning, measure, own_bounds, are_within, at_least_0, equal_to_0}
 
 -- the rows with one more
 abbrev pub with_row : List PRow → PRow → List PRow

@@ -17,15 +17,16 @@ use Rattle.cert_kit.specs.declared.cert.Cert.{Cert}
 use Rattle.cert_kit.specs.declared.cert.Close.TheOpen.{Close-F, Cert-F}
 use Rattle.cert_kit.specs.declared.cert.Close.TheFolds.{fold-Cert}
 use Rattle.cert_kit.specs.Cut.{cut_of}
-use Rattle.cert_kit.specs.Meaning.{Bounds, own_bounds, no_bounds, product_bounds, sum_bounds, constant_bounds, are_within, product_row, sum_row, multiple_row, constant_row, at_least_0, equal_to_0}
+use Rattle.cert_kit.specs.declared.bounds.Bounds.{Bounds}
+use Rattle.cert_kit.specs.Meaning.{own_bounds, no_bounds, product_bounds, sum_bounds, constant_bounds, are_within, product_row, sum_row, multiple_row, constant_row, at_least_0, equal_to_0}
 use Rattle.cert_kit.specs.Acceptance.{with_row, ends_false, below_0, below_bounds, Range, range_of, values_of, value_row}
 
 -- a row with its bounds
 abbrev pub node_of : PRow → Bounds → Node
-node_of r b = record { row = r; norm = b.norm; spread = b.spread; degree = b.degree }
+node_of r b = record { row = r; bounds = b }
 
 abbrev pub bounds_of : Node → Bounds
-bounds_of n = record { norm = n.norm; spread = n.spread; degree = n.degree }
+bounds_of n = n.bounds
 
 -- the bounds are tested where the rule gave a row
 abbrev pub tested : PRow → Bounds → Result Node Fault

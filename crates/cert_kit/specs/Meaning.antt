@@ -4,6 +4,7 @@ use Rattle.std.specs.Option.{option_map_or}
 use Rattle.mm_num.specs.Option.{◌>>=◌}
 use Rattle.mm_poly.specs.declared.term.Term.{Term}
 use Rattle.mm_poly.specs.Poly.{norm, spread, degree, plus, times, constant_of}
+use Rattle.cert_kit.specs.declared.bounds.Bounds.{Bounds}
 use Rattle.cert_kit.specs.declared.row.Op.{Op}
 use Rattle.cert_kit.specs.declared.row.Op.TheVariants.{Ge, Eq}
 use Rattle.cert_kit.specs.declared.row.PRow.{PRow}
@@ -67,12 +68,6 @@ meaning_step Psatz-F.Zero rows = Some (equal_to_0 [])
 abbrev pub meaning : Psatz → Meaning
 meaning = fold-Psatz Meaning meaning_step
 
--- bounds on the norm, the spread and the degree of a row
-pub record Bounds : Type 0 where
-  pub norm : ℕ
-  pub spread : ℕ
-  pub degree : ℕ
-
 abbrev pub own_bounds : List Term → Bounds
 own_bounds p = record { norm = norm p; spread = spread p; degree = degree p }
 
@@ -90,6 +85,10 @@ constant_bounds c = record { norm = unsigned_abs c; spread = 1; degree = 0 }
 
 abbrev pub are_within : Bounds → Bool
 are_within b = nat_lt b.norm (2 ^ 126) && (nat_le b.spread 65536 && nat_le b.degree 255)
+
+-- bounds, where they are within the limits
+abbrev pub where_within : Bounds → Option Bounds
+where_within b = if are_within b then Some b else None
 
 -- the bounds of an expression, and whether those of each of its nodes are within the limits
 pub record Measure : Type 0 where

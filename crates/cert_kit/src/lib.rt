@@ -5,6 +5,7 @@
 //! good certificate stand here once, with the law that no integer point solves a clause with a good certificate.
 #![tactic(auto)]
 
+mod bounds;
 mod bytes;
 mod cert;
 mod constants;
@@ -22,6 +23,7 @@ mod same;
 mod sink;
 mod threads;
 
+pub use bounds::Bounds;
 pub use bytes::{put_byte, put_integer, put_number, put_poly, put_rows};
 pub use cert::{Cert, Close, Ends, Psatz, Step};
 pub use cut::cut_row;

@@ -1,3 +1,4 @@
+use crate::bounds::Bounds;
 use crate::row::PRow;
 
 /// Why a certificate isn't good.
@@ -9,14 +10,9 @@ pub enum Fault {
     Bound,
 }
 
-/// A row that an expression means, with three bounds that go by the expression and not by the row itself.
+/// A row that an expression means, with the bounds of the expression.
 #[derive(Debug, Drop)]
 pub struct Node {
     pub row: PRow,
-    /// At least the row's norm.
-    pub norm: u128,
-    /// At least the row's spread.
-    pub spread: u64,
-    /// At least the row's degree.
-    pub degree: u32,
+    pub bounds: Bounds,
 }
