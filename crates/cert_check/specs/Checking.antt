@@ -1,5 +1,5 @@
 -- What the parts of the checker give, in the words of the first fault.
-use Rattle.std.specs.Prelude.{◌≡◌, Result, Ok, Err, Option, Some, None, List, if◌then◌else◌}
+use Rattle.std.specs.Prelude.{◌≡◌, Result, Ok, Err, Option, Some, None, List}
 use Rattle.mm_num.specs.Result.{◌>>=◌}
 use Rattle.cert_kit.specs.declared.node.Fault.{Fault}
 use Rattle.cert_kit.specs.declared.node.Fault.TheVariants.{Rule, Bound}
@@ -7,7 +7,7 @@ use Rattle.cert_kit.specs.declared.node.Node.{Node}
 use Rattle.cert_kit.specs.declared.row.PRow.{PRow}
 use Rattle.cert_kit.specs.declared.cert.Close.{Close}
 use Rattle.cert_kit.specs.declared.cert.Close.TheFolds.{fold-Close}
-use Rattle.cert_kit.specs.Meaning.{Bounds, are_within}
+use Rattle.cert_kit.specs.declared.bounds.Bounds.{Bounds}
 use Rattle.cert_kit.specs.Acceptance.{Range, range_of}
 use Rattle.cert_kit.specs.FirstFault.{Faulting, range_fault, fault_close, fault_cert, bounds_of}
 use Rattle.cert_check.specs.Room.{Covers}
@@ -38,9 +38,10 @@ abbrev pub Finds : {A : Type 0} → Result A CheckFail → Option Fault → Type
 Finds (Ok x) o = o ≡ None
 Finds (Err e) o = IsFault e o
 
--- bounds within the limits
-abbrev pub within : Bounds → Result Bounds Fault
-within b = if are_within b then Ok b else Err Bound
+-- bounds, or the fault that they pass the limits
+abbrev pub bounded : Option Bounds → Result Bounds Fault
+bounded None = Err Bound
+bounded (Some b) = Ok b
 
 -- the bounds of a node cover its row
 abbrev pub CoversRow : Node → Type 0

@@ -1,3 +1,4 @@
 pub mod Verdict
 pub mod Room
 pub mod Checking
+pub mod Held

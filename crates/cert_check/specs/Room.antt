@@ -2,7 +2,7 @@
 use Rattle.std.specs.Prelude.{◌+◌, ◌^◌, ◌<◌, ◌≤◌, unsigned_abs, List}
 use Rattle.mm_poly.specs.declared.term.Term.{Term}
 use Rattle.mm_poly.specs.Poly.{norm, spread, degree, constant_of}
-use Rattle.cert_kit.specs.Meaning.{Bounds}
+use Rattle.cert_kit.specs.declared.bounds.Bounds.{Bounds}
 use Rattle.cert_kit.specs.Acceptance.{Range}
 
 -- the bounds are at least the polynomial's own

@@ -99,5 +99,5 @@ fn interval_of(
 {
     let lower = walk_through(alloc, rows, lower)?;
     let upper = walk_through(alloc, rows, upper)?;
-    Interval::of_rows(alloc, &lower.get().row, &upper.get().row)
+    Interval::of_rows(alloc, lower.get().row(), upper.get().row())
 }

@@ -10,9 +10,9 @@ mod fail;
 mod interval;
 mod node;
 mod rows;
-mod size;
 mod split;
 mod step;
 mod walk;
+mod walked;
 
 pub use checking::{Verdict, check};

@@ -2,18 +2,29 @@ ghost use Rattle.std.specs.Prelude.{◌≡◌, IfOk, slice_get, []};
 ghost use Rattle.mm_poly.specs.Poly.{times};
 ghost use Rattle.cert_kit.specs.Meaning.{own_bounds, no_bounds, product_bounds, sum_bounds, constant_bounds, product_row, sum_row, product_op, sum_op, multiple_row, constant_row, at_least_0, equal_to_0};
 ghost use Rattle.cert_kit.specs.FirstFault.{row_at, tested, tested_rule, bounds_of};
-ghost use Rattle.cert_check.specs.Checking.{Gives, CoversRow};
+ghost use Rattle.cert_check.specs.Checking.{Gives, CoversRow, bounded};
 
 use crate::fail::CheckFail;
 use crate::rows::Rows;
-use crate::size::Size;
-use cert_kit::{Fault, Node, Op, PRow};
+use crate::walked::Walked;
+use cert_kit::{Bounds, Fault, Op, PRow};
 use mm_poly::Poly;
 use sqlite_items::Boxed;
 use std::alloc::Global;
 
+/// Bounds within the limits, or their fault.
+pub fn within(bounds: Option<Bounds>) -> Result<Bounds, CheckFail>
+    ensures { Gives result (bounded bounds) }
+{
+    bounds.ok_or(CheckFail::Wrong(Fault::Bound))
+}
+
 /// The row of a number, with its own bounds.
-pub fn row_node(alloc: Global, rows: &Rows<'_>, n: u32) -> Result<Boxed<Node>, CheckFail>
+pub fn row_node<'a>(
+    alloc: Global,
+    rows: &'a Rows<'_>,
+    n: u32,
+) -> Result<Boxed<Walked<'a>>, CheckFail>
     ensures gives { Gives result (row_at (slice_get rows.now n)) }
     ensures covers { IfOk result CoversRow }
 {
@@ -24,104 +35,100 @@ pub fn row_node(alloc: Global, rows: &Rows<'_>, n: u32) -> Result<Boxed<Node>, C
 }
 
 // A row with its own bounds, which are within the limits.
-fn own_node(alloc: Global, row: &PRow) -> Result<Boxed<Node>, CheckFail>
+fn own_node<'a>(alloc: Global, row: &'a PRow) -> Result<Boxed<Walked<'a>>, CheckFail>
     ensures gives { Gives result (tested row.now (own_bounds row.now.poly)) }
     ensures covers { IfOk result CoversRow }
 {
-    let size = Size::of(&row.poly).tested()?;
-    let node = size.node(row.copy(alloc)?);
-    Ok(Boxed::new(alloc, node)?)
+    let bounds = within(Bounds::of(&row.poly).tested())?;
+    Ok(Boxed::new(alloc, Walked::lent(row, bounds))?)
 }
 
 /// The square of a polynomial is at least 0.
-pub fn square_node(alloc: Global, poly: &Poly) -> Result<Boxed<Node>, CheckFail>
+pub fn square_node<'a>(alloc: Global, poly: &Poly) -> Result<Boxed<Walked<'a>>, CheckFail>
     ensures gives { Gives result (tested (at_least_0 (times poly.now poly.now)) (product_bounds (own_bounds poly.now) (own_bounds poly.now))) }
     ensures covers { IfOk result CoversRow }
 {
-    let own = Size::of(poly);
-    let size = own.times(&own)?;
+    let own = Bounds::of(poly);
+    let bounds = within(own.times(own))?;
     let square = poly.product(alloc, poly)?;
-    let row = PRow {
-        poly: square,
-        op: Op::Ge,
-    };
-    Ok(Boxed::new(alloc, size.node(row))?)
+    Ok(Boxed::new(alloc, Walked::made(square, Op::Ge, bounds))?)
 }
 
 /// A polynomial times a part, which has to be an equality.
-pub fn multiple_node(alloc: Global, poly: &Poly, part: &Node) -> Result<Boxed<Node>, CheckFail>
+pub fn multiple_node<'a>(
+    alloc: Global,
+    poly: &Poly,
+    part: &Walked<'_>,
+) -> Result<Boxed<Walked<'a>>, CheckFail>
     requires { CoversRow part.now }
     ensures gives { Gives result (tested_rule (multiple_row poly.now part.now.row.op part.now.row.poly) (product_bounds (own_bounds poly.now) (bounds_of part.now))) }
     ensures covers { IfOk result CoversRow }
 {
-    if part.row.op == Op::Ge {
+    let row = part.row();
+    if row.op == Op::Ge {
         return Err(CheckFail::Wrong(Fault::Rule));
     }
-    let size = Size::of(poly).times(&Size::of_node(part))?;
-    let multiple = poly.product(alloc, &part.row.poly)?;
-    let row = PRow {
-        poly: multiple,
-        op: Op::Eq,
-    };
-    Ok(Boxed::new(alloc, size.node(row))?)
+    let bounds = within(Bounds::of(poly).times(part.bounds()))?;
+    let multiple = poly.product(alloc, &row.poly)?;
+    Ok(Boxed::new(alloc, Walked::made(multiple, Op::Eq, bounds))?)
 }
 
 /// The product of two parts.
-pub fn product_node(alloc: Global, first: &Node, second: &Node) -> Result<Boxed<Node>, CheckFail>
+pub fn product_node<'a>(
+    alloc: Global,
+    first: &Walked<'_>,
+    second: &Walked<'_>,
+) -> Result<Boxed<Walked<'a>>, CheckFail>
     requires first { CoversRow first.now }
     requires second { CoversRow second.now }
     ensures gives { Gives result (tested (product_row first.now.row second.now.row) (product_bounds (bounds_of first.now) (bounds_of second.now))) }
     ensures covers { IfOk result CoversRow }
 {
-    let size = Size::of_node(first).times(&Size::of_node(second))?;
-    let poly = first.row.poly.product(alloc, &second.row.poly)?;
-    let row = PRow {
-        poly,
-        op: op_of_product(first.row.op, second.row.op),
-    };
-    Ok(Boxed::new(alloc, size.node(row))?)
+    let bounds = within(first.bounds().times(second.bounds()))?;
+    let (first, second) = (first.row(), second.row());
+    let poly = first.poly.product(alloc, &second.poly)?;
+    let op = op_of_product(first.op, second.op);
+    Ok(Boxed::new(alloc, Walked::made(poly, op, bounds))?)
 }
 
 /// The sum of two parts, made of their own terms.
-pub fn sum_node(alloc: Global, first: Node, second: Node) -> Result<Boxed<Node>, CheckFail>
+pub fn sum_node<'a>(
+    alloc: Global,
+    first: Walked<'_>,
+    second: Walked<'_>,
+) -> Result<Boxed<Walked<'a>>, CheckFail>
     requires first { CoversRow first }
     requires second { CoversRow second }
-    ensures gives { Gives result (tested (sum_row first.row second.row) (sum_bounds (bounds_of first) (bounds_of second))) }
+    ensures gives { Gives result (tested (sum_row first.entry.row second.entry.row) (sum_bounds (bounds_of first.entry) (bounds_of second.entry))) }
     ensures covers { IfOk result CoversRow }
 {
-    let size = Size::of_node(&first).plus(&Size::of_node(&second))?;
-    let op = op_of_sum(first.row.op, second.row.op);
-    let poly = first.row.poly.into_sum(alloc, second.row.poly)?;
-    Ok(Boxed::new(alloc, size.node(PRow { poly, op }))?)
+    let bounds = within(first.bounds().plus(second.bounds()))?;
+    let op = op_of_sum(first.row().op, second.row().op);
+    let poly = first.into_sum(alloc, second)?;
+    Ok(Boxed::new(alloc, Walked::made(poly, op, bounds))?)
 }
 
 /// A constant of at least 1 is at least 0.
-pub fn constant_node(alloc: Global, c: i128) -> Result<Boxed<Node>, CheckFail>
+pub fn constant_node<'a>(alloc: Global, c: i128) -> Result<Boxed<Walked<'a>>, CheckFail>
     ensures gives { Gives result (tested_rule (constant_row c) (constant_bounds c)) }
     ensures covers { IfOk result CoversRow }
 {
     if c < 1 {
         return Err(CheckFail::Wrong(Fault::Rule));
     }
-    let size = Size::of_constant(c).tested()?;
-    let row = PRow {
-        poly: Poly::constant(alloc, c)?,
-        op: Op::Ge,
-    };
-    Ok(Boxed::new(alloc, size.node(row))?)
+    let bounds = within(Bounds::of_constant(c).tested())?;
+    let poly = Poly::constant(alloc, c)?;
+    Ok(Boxed::new(alloc, Walked::made(poly, Op::Ge, bounds))?)
 }
 
 /// 0 is 0.
-pub fn zero_node(alloc: Global) -> Result<Boxed<Node>, CheckFail>
+pub fn zero_node<'a>(alloc: Global) -> Result<Boxed<Walked<'a>>, CheckFail>
     ensures gives { Gives result (tested (equal_to_0 []) no_bounds) }
     ensures covers { IfOk result CoversRow }
 {
-    let size = Size::none();
-    let row = PRow {
-        poly: Poly::constant(alloc, 0)?,
-        op: Op::Eq,
-    };
-    Ok(Boxed::new(alloc, size.node(row))?)
+    let bounds = Bounds::none();
+    let poly = Poly::constant(alloc, 0)?;
+    Ok(Boxed::new(alloc, Walked::made(poly, Op::Eq, bounds))?)
 }
 
 // A product is 0 where a factor is.

@@ -6,9 +6,9 @@ ghost use Rattle.cert_kit.specs.FirstFault.{unless};
 ghost use Rattle.cert_check.specs.Checking.{Finds};
 
 use crate::fail::CheckFail;
+use crate::node::within;
 use crate::rows::Rows;
-use crate::size::Size;
-use cert_kit::{Op, PRow};
+use cert_kit::{Bounds, Op, PRow};
 use mm_poly::Poly;
 use std::alloc::{AllocError, Global};
 
@@ -16,8 +16,8 @@ use std::alloc::{AllocError, Global};
 pub fn test_split(poly: &Poly) -> Result<(), CheckFail>
     ensures { Finds result (unless (are_within (own_bounds poly.now) && are_within (below_bounds poly.now)) Bound) }
 {
-    Size::of(poly).tested()?;
-    Size::below(poly).tested()?;
+    within(Bounds::of(poly).tested())?;
+    within(Bounds::below(poly).tested())?;
     Ok(())
 }
 

@@ -25,10 +25,7 @@ fn row_of_step(alloc: Global, rows: &Rows<'_>, step: &Step) -> Result<PRow, Chec
     ensures { Gives result (step_walk step.now rows.now) }
 {
     match step {
-        Step::Rat(e) => Ok(walk_through(alloc, rows, e)?.into_inner().row),
-        Step::Cut(e) => {
-            let row = walk_through(alloc, rows, e)?.into_inner().row;
-            Ok(row.into_cut(alloc)?)
-        }
+        Step::Rat(e) => Ok(walk_through(alloc, rows, e)?.into_inner().into_row(alloc)?),
+        Step::Cut(e) => Ok(walk_through(alloc, rows, e)?.into_inner().into_cut(alloc)?),
     }
 }

@@ -7,13 +7,18 @@ use crate::node::{
     constant_node, multiple_node, product_node, row_node, square_node, sum_node, zero_node,
 };
 use crate::rows::Rows;
-use cert_kit::{Node, Psatz};
+use crate::walked::Walked;
+use cert_kit::Psatz;
 use sqlite_items::Boxed;
 use std::alloc::Global;
 
 /// The row that an expression means with its bounds, or its first fault. Nodes stand on the heap, so that deep
 /// expressions take little of the stack.
-pub fn walk_through(alloc: Global, rows: &Rows<'_>, e: &Psatz) -> Result<Boxed<Node>, CheckFail>
+pub fn walk_through<'a>(
+    alloc: Global,
+    rows: &'a Rows<'_>,
+    e: &Psatz,
+) -> Result<Boxed<Walked<'a>>, CheckFail>
     ensures gives { Gives result (walk e.now rows.now) }
     ensures covers { IfOk result CoversRow }
 {
