@@ -17,4 +17,4 @@ mod word;
 
 pub use check::{one_place, one_reading, read_check};
 pub use fail::CheckText;
-pub use print::{print_cert, print_row};
+pub use print::{print_cert, print_row, push_cert_line, push_row_line};

@@ -2,7 +2,7 @@
 
 ghost use Rattle.std.specs.Prelude.{◌≡◌, ◌++◌, map, IfOk, OnOk, decimal, codes};
 ghost use Rattle.std.specs.List.{flat_map};
-ghost use Rattle.cert_text.specs.Text.{poly_text, signed_text, psatz_text, step_text, more_members, close_text, cert_text};
+ghost use Rattle.cert_text.specs.Text.{poly_text, signed_text, psatz_text, step_text, more_members, close_text, cert_text, cert_line};
 
 use crate::print::number::push_number;
 use crate::print::polynomial::{push_first_sign, push_polynomial};
@@ -151,4 +151,13 @@ pub fn print_cert(alloc: Global, cert: &Cert) -> Result<Vec<u8>, AllocError>
     let mut out = Vec::new(alloc);
     push_cert(&mut out, cert)?;
     Ok(out)
+}
+
+/// Appends the line of a certificate: `cert `, its text and a line feed. `Err` where there is no memory.
+pub fn push_cert_line(out: &mut Vec<u8>, cert: &Cert) -> Result<(), AllocError>
+    ensures { OnOk result (out.new.items ≡ out.old.items ++ cert_line cert.now) }
+{
+    out.extend_from_slice(b"cert ")?;
+    push_cert(out, cert)?;
+    out.extend_from_slice(b"\n")
 }

@@ -1,5 +1,5 @@
 ghost use Rattle.std.specs.Prelude.{◌≡◌, ◌++◌, IfOk, OnOk};
-ghost use Rattle.cert_text.specs.Text.{op_text, row_text};
+ghost use Rattle.cert_text.specs.Text.{op_text, row_text, row_line};
 
 use crate::print::polynomial::push_polynomial;
 use cert_kit::{Op, PRow};
@@ -14,12 +14,27 @@ fn push_op(out: &mut Vec<u8>, op: Op) -> Result<(), AllocError>
     }
 }
 
+fn push_row(out: &mut Vec<u8>, row: &PRow) -> Result<(), AllocError>
+    ensures { OnOk result (out.new.items ≡ out.old.items ++ row_text row.now) }
+{
+    push_polynomial(out, &row.poly)?;
+    push_op(out, row.op)
+}
+
 /// The text of a row.
 pub fn print_row(alloc: Global, row: &PRow) -> Result<Vec<u8>, AllocError>
     ensures { IfOk result (λ text. text.items ≡ row_text row.now) }
 {
     let mut out = Vec::new(alloc);
-    push_polynomial(&mut out, &row.poly)?;
-    push_op(&mut out, row.op)?;
+    push_row(&mut out, row)?;
     Ok(out)
+}
+
+/// Appends the line of a row: `row `, its text and a line feed. `Err` where there is no memory.
+pub fn push_row_line(out: &mut Vec<u8>, row: &PRow) -> Result<(), AllocError>
+    ensures { OnOk result (out.new.items ≡ out.old.items ++ row_line row.now) }
+{
+    out.extend_from_slice(b"row ")?;
+    push_row(out, row)?;
+    out.extend_from_slice(b"\n")
 }
