@@ -19,6 +19,6 @@ mod truth;
 mod value;
 
 pub use fail::SortFail;
-pub use law::one_sorting;
+pub use law::{one_sorting, sorted_goals_are_well_formed, sorting_gives};
 pub use raw::{Head, RawBound, RawExpr, RawGoal, RawSession};
 pub use root::sorts;

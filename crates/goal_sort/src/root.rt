@@ -1,6 +1,6 @@
 //! The goal.
 
-ghost use Rattle.std.specs.Prelude.{◌≡◌, ◌≢◌, ◌++◌, ◌≤◌, [], length, map, IfOk, IfErr, OnOk};
+ghost use Rattle.std.specs.Prelude.{◌≡◌, ◌≢◌, ◌++◌, ◌≤◌, [], length, map, Ok, IfOk, IfErr, OnOk};
 ghost use Rattle.goal_ast.specs.declared.goal.Goal.{Goal};
 ghost use Rattle.goal_ast.specs.Sorted.{IsWellFormed};
 ghost use Rattle.goal_sort.specs.SortGiving.{Refuses, GivesPlaced};
@@ -103,6 +103,7 @@ fn sorted_goal(alloc: Global, raw: &RawGoal) -> Result<Goal, SortFail>
 pub fn sorts(alloc: Global, raw: &RawGoal) -> Result<Goal, SortFail>
     requires { IsReadable raw.now }
     ensures sorted { IfOk result (λ goal. IsSorted raw.now goal) }
+    ensures given { IfOk result (λ goal. sorting raw.now ≡ Ok goal) }
     ensures well_formed { IfOk result IsWellFormed }
     ensures refused { IfErr result (λ fail. Refuses fail (sorting raw.now)) }
     ensures exact { IfErr result (λ fail. fail ≢ SortFail.NoMemory → (goal : Goal) → IsSorted raw.now goal → ⊥) }
