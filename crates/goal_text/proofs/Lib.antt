@@ -17,3 +17,4 @@ pub mod PrefixSteps
 pub mod ReadableLaws
 pub mod ShortLaws
 pub mod WithinLaws
+pub mod FewLaws

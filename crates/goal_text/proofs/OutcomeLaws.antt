@@ -43,7 +43,7 @@ use Rattle.goal_text.proofs.CountLaws.{body_counted, names_counted}
 
 -- ---- a token that passes a limit, as reading tells
 
-session_is : (t : Placed) → is_session (kind_of t.token) ≡ true → t.token ≡ tokens.Keyword keywords.Session
+pub session_is : (t : Placed) → is_session (kind_of t.token) ≡ true → t.token ≡ tokens.Keyword keywords.Session
 session_is t e = by_kind (kind_of t.token) (kind_is t) e
   where
     by_word : (k : Keyword) → t ≡ word k t.at → is_session (kinds.Keyword k) ≡ true → t.token ≡ tokens.Keyword keywords.Session
@@ -66,7 +66,7 @@ session_is t e = by_kind (kind_of t.token) (kind_is t) e
     by_kind kinds.Close is e = absurd cc
     by_kind kinds.Other is e = absurd cc
 
-goal_is : (t : Placed) → is_goal (kind_of t.token) ≡ true → t.token ≡ tokens.Keyword keywords.Goal
+pub goal_is : (t : Placed) → is_goal (kind_of t.token) ≡ true → t.token ≡ tokens.Keyword keywords.Goal
 goal_is t e = by_kind (kind_of t.token) (kind_is t) e
   where
     by_word : (k : Keyword) → t ≡ word k t.at → is_goal (kinds.Keyword k) ≡ true → t.token ≡ tokens.Keyword keywords.Goal
@@ -111,7 +111,7 @@ pub count_append : (k : Keyword) (ts us : List Placed) → count k (ts ++ us) �
 count_append k [] us = omega arith
 count_append k (t ∷ ts) us = omega (arith, count_append k ts us)
 
-session_counts : (t : Token) → one_if (is_session (kind_of t)) ≡ count_one keywords.Session t
+pub session_counts : (t : Token) → one_if (is_session (kind_of t)) ≡ count_one keywords.Session t
 session_counts (tokens.Keyword keywords.Session) = refl
 session_counts (tokens.Keyword keywords.Goal) = refl
 session_counts (tokens.Keyword keywords.Proof) = refl
@@ -135,7 +135,7 @@ session_counts (tokens.Sign s) = by_sign s
     by_sign signs.Close = refl
     by_sign s = refl
 
-goal_counts : (t : Token) → one_if (is_goal (kind_of t)) ≡ count_one keywords.Goal t
+pub goal_counts : (t : Token) → one_if (is_goal (kind_of t)) ≡ count_one keywords.Goal t
 goal_counts (tokens.Keyword keywords.Session) = refl
 goal_counts (tokens.Keyword keywords.Goal) = refl
 goal_counts (tokens.Keyword keywords.Proof) = refl

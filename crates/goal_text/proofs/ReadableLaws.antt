@@ -20,10 +20,12 @@ use Rattle.goal_sort.specs.declared.raw.Head.TheVariants as heads
 use Rattle.goal_sort.specs.declared.raw.RawBound.{RawBound}
 use Rattle.goal_sort.specs.declared.raw.RawExpr.{RawExpr}
 use Rattle.goal_sort.specs.declared.raw.RawExpr.TheFolds.{fold-roll-RawExpr}
-use Rattle.goal_sort.specs.Sorting.{head_fits, all_true, literals_level, literals_fit, raw_nodes}
+use Rattle.goal_sort.specs.Sorting.{head_fits, all_true, literals_level, literals_fit, raw_nodes, IsReadable}
 use Rattle.goal_text.specs.declared.state.Named.{Named}
 use Rattle.goal_text.specs.Grammar.{sign, leaf_of, constant_text, Expr, leaf, grouped, applied, applied_to_two, prefixed, joined, chained}
 use Rattle.goal_text.specs.Files.{word, sort, name, group, bounds, Groups, first_group, next_group, Prefixes, no_prefix, bare_prefix, grouped_prefix}
+use Rattle.goal_sort.specs.declared.raw.RawSession.{RawSession}
+use Rattle.goal_text.specs.GoalsRead.{IsGoalOfFile, AreGoalsOfFile, AreReadable}
 use Rattle.goal_sort.proofs.NumberLaws.{raw_size}
 use Rattle.mm_num.proofs.ListLaws.{all_join}
 use Rattle.goal_sort.specs.IsSorted.{node}
@@ -146,3 +148,9 @@ prefixes_bind (bare_prefix {bs = bs} {ts = ts} p q r t names s before some) all 
 prefixes_bind (grouped_prefix {bs = bs} {cs = cs} {ts = ts} {us = us} p t before groups) all =
     let last = second_named ts (word keywords.Forall p ∷ (us ++ sign signs.Comma t ∷ [])) all in
     both_bind bs cs (prefixes_bind before (first_named ts (word keywords.Forall p ∷ (us ++ sign signs.Comma t ∷ [])) all)) (groups_bind groups (first_named us (sign signs.Comma t ∷ []) last.1))
+
+-- ---- goals of a file
+
+pub readable_of_file : (ss : List RawSession) → AreGoalsOfFile ss → AreReadable ss
+readable_of_file ss =
+    all_more (λ (s : RawSession). AllByRecursion IsGoalOfFile s.goals) (λ (s : RawSession). AllByRecursion IsReadable s.goals) ss (λ s. all_more IsGoalOfFile IsReadable s.goals (λ raw (g : IsGoalOfFile raw). g.readable))

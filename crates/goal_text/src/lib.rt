@@ -25,6 +25,6 @@ mod stack;
 mod state;
 
 pub use fail::TextFail;
-pub use file::{one_reading, read_file};
+pub use file::{one_reading, read_file, readable, within_limits};
 pub use goal_sort::{SortFail, one_sorting, sorts};
 pub use raw::{Head, RawBound, RawExpr, RawGoal, RawSession};
