@@ -37,6 +37,14 @@ fn push_lines(out: &mut Vec<u8>, vars: &[Bound], values: &[i128]) -> Result<(), 
     Ok(())
 }
 
+/// Appends the text of an assignment. `Err` where there is no memory.
+pub fn push_assignment(out: &mut Vec<u8>, goal: &Goal, a: &Assignment) -> Result<(), AllocError>
+    requires { IsInRange goal.now a.now }
+    ensures { OnOk result (out.new.items ≡ out.old.items ++ assignment_text goal.now a.now) }
+{
+    push_lines(out, goal.vars.as_slice(), a.values.as_slice())
+}
+
 /// The text of an assignment: a line `NAME := VALUE` for each variable, in their order. The values of bools are `true`
 /// and `false`. `Err` where there is no memory.
 pub fn print_assignment(alloc: Global, goal: &Goal, a: &Assignment) -> Result<Vec<u8>, AllocError>
@@ -44,6 +52,6 @@ pub fn print_assignment(alloc: Global, goal: &Goal, a: &Assignment) -> Result<Ve
     ensures { IfOk result (λ text. text.items ≡ assignment_text goal.now a.now) }
 {
     let mut text = Vec::new(alloc);
-    push_lines(&mut text, goal.vars.as_slice(), a.values.as_slice())?;
+    push_assignment(&mut text, goal, a)?;
     Ok(text)
 }

@@ -15,6 +15,6 @@ mod precedence;
 mod spelling;
 mod term;
 
-pub use assignment::print_assignment;
-pub use goal::print_goal;
+pub use assignment::{print_assignment, push_assignment};
+pub use goal::{print_goal, push_goal};
 pub use law::reads_back;
