@@ -10,7 +10,7 @@ use Rattle.goal_ast.specs.declared.term.Term.TheViews.{roll-Term, out-Term, out-
 use Rattle.goal_ast.specs.declared.term.Term.TheFolds.{map-Term, fold-roll-Term}
 use Rattle.goal_ast.specs.declared.goal.Bound.{Bound}
 use Rattle.goal_ast.specs.declared.goal.Goal.{Goal}
-use Rattle.goal_ast.specs.Truth.{Point, value_level, value_of}
+use Rattle.goal_ast.specs.Truth.{Point, value_level, value_of, truth_of}
 use Rattle.goal_ast.specs.Range.{IsInSort, sorts_of, SuitsSorts, IsValid}
 use Rattle.goal_ast.specs.Sorted.{IsWellFormed}
 use Rattle.goal_ast.specs.Equality.{parts_of}
@@ -133,8 +133,9 @@ valid_translated goal w v x h =
     (conditions_hold e x ops in_table (all_ready goal w)) in
     sym (formula_agrees e y x (extended_explains e x) goal.body (scope_of goal w)) ∙ v y hyps
 
-translated_valid : (goal : Goal) → IsWellFormed goal → IsValid goal → IsValidTranslated (translated goal)
-translated_valid goal w v y h =
+-- where all hypotheses hold, the bound variables suit their sorts, and the bodies agree
+pub at_points : (goal : Goal) → IsWellFormed goal → (y : Point) → AllByRecursion (HoldsTranslated y) (translated goal).hyps → SuitsSorts y (sorts_of goal.vars) × (z_truth_of y (translated goal).body ≡ truth_of y goal.body)
+at_points goal w y h =
     let e = table_of goal in
     let ops = distinct_operations goal.body in
     let p = all_split (HoldsTranslated y) (ranges_from 0 (sorts_of goal.vars)) (map (condition_of e) ops) h in
@@ -143,7 +144,10 @@ translated_valid goal w v y h =
       bound = λ i l. refl;
       known = λ d t r f i a. condition_says e y y d t r f a (all_has (λ u. HoldsTranslated y (condition_of e u)) t ops conditions i);
     } in
-    formula_agrees e y y explains goal.body (scope_of goal w) ∙ v y (to_none y (sorts_of goal.vars) (ranges_say y 0 (sorts_of goal.vars) p.0))
+    (to_none y (sorts_of goal.vars) (ranges_say y 0 (sorts_of goal.vars) p.0), formula_agrees e y y explains goal.body (scope_of goal w))
+
+translated_valid : (goal : Goal) → IsWellFormed goal → IsValid goal → IsValidTranslated (translated goal)
+translated_valid goal w v y h = let p = at_points goal w y h in p.1 ∙ v y p.0
 
 pub law : (goal : Goal) → IsWellFormed goal → (IsValid goal ↔ IsValidTranslated (translated goal))
 law goal w = (translated_valid goal w, valid_translated goal w)

@@ -23,5 +23,5 @@ pub use convert::{back, zify};
 pub use fail::ZFail;
 pub use form::ZForm;
 pub use goal::ZGoal;
-pub use law::translation;
+pub use law::{points, translation};
 pub use term::ZTerm;
