@@ -21,10 +21,10 @@ use Rattle.clause_form.proofs.NamingLaws.{or_second, named_back, named_through}
 solved : (x : Point) (rows : List PRow) → all_hold x rows ≡ true → Solves x rows
 solved x rows = (rows_tested x rows).0
 
-tested : (x : Point) (rows : List PRow) → Solves x rows → all_hold x rows ≡ true
+pub tested : (x : Point) (rows : List PRow) → Solves x rows → all_hold x rows ≡ true
 tested x rows = (rows_tested x rows).1
 
-hypotheses_hold : (x : Point) (hs : List ZForm) → list_all (z_truth_of x) hs ≡ true → AllByRecursion (HoldsTranslated x) hs
+pub hypotheses_hold : (x : Point) (hs : List ZForm) → list_all (z_truth_of x) hs ≡ true → AllByRecursion (HoldsTranslated x) hs
 hypotheses_hold x [] e = tt
 hypotheses_hold x (h ∷ hs) e = let p = and_parts (z_truth_of x h) (list_all (z_truth_of x) hs) e in (p.0, hypotheses_hold x hs p.1)
 
@@ -34,7 +34,7 @@ hypotheses_tested x (h ∷ hs) a = both_same (λ s t. s && t) _ _ _ _ a.0 (hypot
 
 -- ---- one clause of a list
 
-not_true : (b : Bool) → not b ≡ true → b ≡ false
+pub not_true : (b : Bool) → not b ≡ true → b ≡ false
 not_true true h = cc
 not_true false h = refl
 

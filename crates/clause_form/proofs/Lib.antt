@@ -15,3 +15,6 @@ pub mod OrderedLaws
 pub mod SortLaws
 pub mod RenumberingLaws
 pub mod GoalPlanLaws
+pub mod WellFormedRowLaws
+pub mod NumberingLaws
+pub mod SolutionLaws

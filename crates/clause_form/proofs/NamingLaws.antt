@@ -83,7 +83,7 @@ any_in_order cmp test exact (a ∷ rest) = any_with cmp test exact a (in_order c
 abbrev pub occurs : ℕ → List ℕ → Bool
 occurs v vars = list_any (nat_eq v) vars
 
-any_append : {A : Type 0} → (test : A → Bool) (xs ys : List A) → list_any test (xs ++ ys) ≡ (list_any test xs || list_any test ys)
+pub any_append : {A : Type 0} → (test : A → Bool) (xs ys : List A) → list_any test (xs ++ ys) ≡ (list_any test xs || list_any test ys)
 any_append test [] ys = refl
 any_append test (x ∷ xs) ys = ap (λ s. test x || s) (any_append test xs ys) ∙ sym (or_assoc (test x) (list_any test xs) (list_any test ys))
 
@@ -126,7 +126,7 @@ poly_local x y (t ∷ ts) a = both_same (λ m n. t.coeff *ℤ m +ℤ n) _ _ _ _
     (mono_local x y t.mono (agree_first (mono_variables t.mono) (poly_variables ts) x y a))
     (poly_local x y ts (agree_second (mono_variables t.mono) (poly_variables ts) x y a))
 
-rows_local : (x y : Point) (rows : List PRow) → AgreeOn (row_variables rows) x y → all_hold x rows ≡ all_hold y rows
+pub rows_local : (x y : Point) (rows : List PRow) → AgreeOn (row_variables rows) x y → all_hold x rows ≡ all_hold y rows
 rows_local x y [] a = refl
 rows_local x y (r ∷ rows) a = both_same (λ s t. s && t) _ _ _ _
     (ap (compares_0 r.op) (poly_local x y r.poly (agree_first (poly_variables r.poly) (row_variables rows) x y a)))

@@ -22,7 +22,7 @@ all_more : {A : Type 0} → (P Q : A → Type 0) → ((x : A) → P x → Q x) �
 all_more P Q f [] a = tt
 all_more P Q f (x ∷ xs) a = (f x a.0, all_more P Q f xs a.1)
 
-all_with_element : {A : Type 0} → (cmp : A → A → Ordering) (P : A → Type 0) (a : A) (bs : List A) → P a → AllByRecursion P bs → AllByRecursion P (with_element cmp a bs)
+pub all_with_element : {A : Type 0} → (cmp : A → A → Ordering) (P : A → Type 0) (a : A) (bs : List A) → P a → AllByRecursion P bs → AllByRecursion P (with_element cmp a bs)
 all_with_element cmp P a [] h k = (h, tt)
 all_with_element cmp P a (b ∷ bs) h k = by_place cmp a b bs (λ r. AllByRecursion P r) (λ o. (h, k)) (λ o. k) (λ o. (k.0, all_with_element cmp P a bs h k.1))
 

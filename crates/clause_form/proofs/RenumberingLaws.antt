@@ -82,7 +82,7 @@ rows_below n (r ∷ rows) a = (
 
 -- ---- the table of the variables that occur
 
-place_within : (v : ℕ) (vars : List ℕ) → occurs v vars ≡ true → place_of vars v < length vars
+pub place_within : (v : ℕ) (vars : List ℕ) → occurs v vars ≡ true → place_of vars v < length vars
 place_within v [] h = absurd (cc)
 place_within v (w ∷ vars) h = by_first (nat_eq v w) refl (λ k. place_within v vars k)
   where
@@ -91,7 +91,7 @@ place_within v (w ∷ vars) h = by_first (nat_eq v w) refl (λ k. place_within v
     by_first false e f = subst (λ (c : Bool). cond (not c) (1 + place_of vars v) 0 < length (w ∷ vars)) (sym e)
         (let l = f (sym (ap (λ s. s || occurs v vars) e) ∙ h) in omega arith)
 
-occurs_there : (v : ℕ) (rows : List PRow) → occurs v (row_variables rows) ≡ true → occurs v (variables_of rows) ≡ true
+pub occurs_there : (v : ℕ) (rows : List PRow) → occurs v (row_variables rows) ≡ true → occurs v (variables_of rows) ≡ true
 occurs_there v rows h = any_in_order nat_cmp (nat_eq v) nat_cmp-IsAntisymmetric (row_variables rows) ∙ h
 
 pub rows_have_places : (table vars : List ℕ) (n : ℕ) (rows : List PRow) → Numbers table vars n → n ≡ length vars → vars ≡ variables_of rows → RowsHavePlaces (length table) rows

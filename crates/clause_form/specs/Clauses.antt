@@ -1,5 +1,5 @@
 -- The clauses of a goal, and its points as theirs.
-use Rattle.std.specs.Prelude.{◌≡◌, ℕ, ◌-◌, ◌^◌, min, List, map, length, false, slice_index_or}
+use Rattle.std.specs.Prelude.{◌≡◌, ℕ, ◌-◌, ◌^◌, ◌<◌, min, List, map, length, false, slice_index_or}
 use Rattle.std.specs.List.{AllByRecursion}
 use Rattle.cert_kit.specs.declared.row.PRow.{PRow}
 use Rattle.cert_kit.specs.Row.{Solves, HasNoSolution}
@@ -8,7 +8,7 @@ use Rattle.zify.specs.Truth.{HoldsTranslated, z_truth_of}
 use Rattle.goal_ast.specs.Truth.{Point}
 use Rattle.clause_form.specs.declared.named.Named.{Named}
 use Rattle.clause_form.specs.Alternatives.{alternatives_of}
-use Rattle.clause_form.specs.Naming.{variables_of, named_rows}
+use Rattle.clause_form.specs.Naming.{variables_of, named_rows, numbers_from}
 
 -- the clause of an alternative
 abbrev pub named : List PRow → Named
@@ -29,6 +29,14 @@ seen_by vars x i = x (slice_index_or vars i 0)
 -- the point, renumbered, solves the clause
 abbrev pub SolvedBy : Point → Named → Type 0
 SolvedBy x n = Solves (seen_by n.vars x) n.clause.rows
+
+-- x gives each of these variables what y gives its number
+abbrev pub GivesBack : List ℕ → Point → Point → Type 0
+GivesBack vars y x = (i : ℕ) → i < length vars → x (slice_index_or vars i 0) ≡ y i
+
+-- the variables of the clause are numbered from 0 on
+abbrev pub IsNumbered : Named → Type 0
+IsNumbered n = variables_of n.clause.rows ≡ numbers_from 0 (length n.vars)
 
 -- the point satisfies the hypotheses and not the body
 pub record Refutes (x : Point) (z : ZGoal) : Type 0 where

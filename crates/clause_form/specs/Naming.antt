@@ -1,5 +1,5 @@
 -- Rows with their variables renumbered from 0, in order and without doubles.
-use Rattle.std.specs.Prelude.{ℕ, List, [], ◌∷◌, map, nat_eq}
+use Rattle.std.specs.Prelude.{ℕ, zero, suc, ◌+◌, List, [], ◌∷◌, map, nat_eq}
 use Rattle.std.specs.List.{flat_map, position_or_len}
 use Rattle.std.specs.Ordering.{nat_cmp}
 use Rattle.std.specs.declared.cmp.Ordering.{Ordering}
@@ -42,3 +42,8 @@ renamed_row r row = record { poly = renamed r row.poly; op = row.op }
 -- the rows over the renumbered variables, in order, each once
 abbrev pub named_rows : List ℕ → List PRow → List PRow
 named_rows vars rows = in_order row_cmp (map (renamed_row (place_of vars)) rows)
+
+-- the numbers from k on, this many
+abbrev pub numbers_from : ℕ → ℕ → List ℕ
+numbers_from k zero = []
+numbers_from k (suc n) = k ∷ numbers_from (k + 1) n

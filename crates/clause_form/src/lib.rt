@@ -21,6 +21,6 @@ mod walk;
 pub use clause_list::{CLAUSE_LIMIT, clauses};
 pub use fail::ClauseFail;
 pub use keys::{equal_keys, key, key_name};
-pub use law::{bounds, refutation};
+pub use law::{bounds, numbering, refutation, solutions};
 pub use named::Named;
 pub use tally::{Tally, count, count_clauses};
