@@ -1,12 +1,13 @@
 -- From the rows that were to come to those that are still to come.
-use Rattle.std.specs.Prelude.{◌≡◌, ℕ, List, [], ◌∷◌, ◌++◌, Bool, true, false, Result, Ok, Err, refl}
-use Rattle.std.proofs.Common.{ap, sym, ◌∙◌, subst, append_assoc, append-nil, arith}
+use Rattle.std.specs.Prelude.{◌≡◌, ℕ, List, [], ◌∷◌, ◌++◌, map, Bool, true, false, Result, Err}
+use Rattle.std.proofs.Common.{sym, subst, append_assoc, append-nil}
+use Rattle.mm_poly.specs.declared.term.Term.{Term}
 use Rattle.cert_kit.specs.declared.row.PRow.{PRow}
 use Rattle.fm_elim.specs.declared.kept.Kept.{Kept}
 use Rattle.fm_elim.specs.Tidy.{End, Contra}
 use Rattle.fm_elim.specs.machine.Tidying.{Stands, Feeds, IsTidying, Goes, then_tidied}
 use Rattle.fm_elim.specs.machine.Sides.{sums_of}
-use Rattle.fm_elim.specs.Steps.{combined_all, pairs_have_room}
+use Rattle.fm_elim.specs.Steps.{combined_all, pairs_have_room, substituted, solve_has_room, solved}
 use Rattle.fm_elim.proofs.GoingLaws.{begin, found as was_found, taken}
 
 -- with the first rows to come before, the second are to come now
@@ -57,6 +58,10 @@ pub toward_next : (a b d : Kept) (all left : List PRow) (r : PRow) (found : Bool
 toward_next a b d all left r true w e f = absurd cc
 toward_next a b d all left r false w e f = toward_step a b d all left r w f
 
+pub toward_more : (a b d : Kept) (all rows left : List PRow) (found : Bool) → Toward a b all (rows ++ left) → found ≡ false → Goes found b d rows → Toward a d all left
+toward_more a b d all rows left found w e g = λ answer rest t.
+    goes_taken answer b d found rows (left ++ rest) e g (subst (IsTidying answer b) (append_assoc rows left rest) (w answer rest t))
+
 -- two rows
 pub goes_two : (a b d : Kept) (before found : Bool) (r s : PRow) → before ≡ false → Feeds before a b (r ∷ []) → Feeds found b d (s ∷ []) → Goes found a d (r ∷ s ∷ [])
 goes_two a b d true found r s e f g = absurd cc
@@ -70,3 +75,13 @@ sums_begin u rows ls hs kept e s = rw e (begin kept (rows ++ combined_all u ls h
 
 pub with_none : (answer : Result (List PRow) End) (a : Kept) (rows : List PRow) → IsTidying answer a rows → IsTidying answer a (rows ++ [])
 with_none answer a rows t = subst (IsTidying answer a) (sym (append-nil rows)) t
+
+-- the rows after a step by an equality
+pub solve_begin : (u : List (ℕ × ℕ)) (p : List Term) (rows : List PRow) (kept : Kept) → solve_has_room u p rows ≡ true → Stands kept.is_over kept.rows.items []
+    → IsTidying (then_tidied (solved u p rows)) kept (map (substituted u p) rows)
+solve_begin u p rows kept e s = rw e (begin kept (map (substituted u p) rows) s)
+
+-- the first of two rows
+pub goes_first : (a b : Kept) (found : Bool) (r s : PRow) → found ≡ true → Feeds found a b (r ∷ []) → Goes true a b (r ∷ s ∷ [])
+goes_first a b true r s e f = λ answer rest t. was_found answer a b r (s ∷ rest) f t
+goes_first a b false r s e f = absurd cc

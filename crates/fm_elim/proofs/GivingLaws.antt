@@ -1,11 +1,10 @@
 -- Values that are given one after another.
-use Rattle.std.specs.Prelude.{◌≡◌, ℕ, ◌^◌, zero, suc, ◌+◌, ◌*◌, ◌≤◌, ◌<◌, max, ℤ, pos, ◌+ℤ◌, ◌*ℤ◌, unsigned_abs, List, [], ◌∷◌, ◌++◌, length, take, drop, nat_lt, Bool, true, false, cond, refl}
+use Rattle.std.specs.Prelude.{◌≡◌, ℕ, ◌^◌, zero, suc, ◌+◌, ◌*◌, ◌≤◌, ◌<◌, max, ℤ, ◌+ℤ◌, ◌*ℤ◌, unsigned_abs, List, [], ◌∷◌, ◌++◌, length, take, drop, nat_lt, Bool, true, false, cond, refl}
 use Rattle.std.proofs.Common.{ap, sym, ◌∙◌, subst, get_or, arith}
 use Rattle.std.proofs.lemmas.Int.{ints, unsigned_abs-mul}
 use Rattle.std.proofs.lemmas.List.{take_more}
-use Rattle.std.specs.List.{AllByRecursion}
 use Rattle.std.specs.Ordering.{is_eq}
-use Rattle.mm_poly.specs.Mono.{mono_cmp, is_constant}
+use Rattle.mm_poly.specs.Mono.{mono_cmp}
 use Rattle.mm_poly.specs.Poly.{with_weight}
 use Rattle.mm_poly.proofs.OrderLaws.{mono_same, mono_exact}
 use Rattle.mm_poly.proofs.CaseLaws.{by_same, by_cases}

@@ -1,6 +1,6 @@
 -- Tidying goes on row by row.
-use Rattle.std.specs.Prelude.{◌≡◌, ◌<◌, ◌≤◌, List, [], ◌∷◌, ◌++◌, length, Bool, true, false, ◌||◌, nat_le, Result, Ok, Err, refl, if◌then◌else◌}
-use Rattle.std.proofs.Common.{ap, sym, ◌∙◌, subst, arith}
+use Rattle.std.specs.Prelude.{◌≡◌, ◌<◌, ◌≤◌, List, [], ◌∷◌, length, Bool, true, false, ◌||◌, nat_le, Result, Ok, Err, refl, if◌then◌else◌}
+use Rattle.std.proofs.Common.{ap, sym, ◌∙◌, arith}
 use Rattle.std.proofs.lemmas.List.{length-map}
 use Rattle.mm_poly.proofs.CaseLaws.{by_if}
 use Rattle.cert_kit.specs.declared.row.PRow.{PRow}
@@ -9,8 +9,7 @@ use Rattle.cert_kit.specs.Cut.{cut_of}
 use Rattle.fm_elim.specs.declared.live.Live.{Live}
 use Rattle.fm_elim.specs.declared.kept.Kept.{Kept}
 use Rattle.fm_elim.specs.Tidy.{End, Contra, Over, kept_after, cuts, has_false, within_512, tidied}
-use Rattle.fm_elim.specs.machine.Tidying.{rows_of, Stands, Feeds, tidied_from, IsTidying, Goes}
-use Rattle.fm_elim.proofs.ParallelLaws.{differ}
+use Rattle.fm_elim.specs.machine.Tidying.{rows_of, Stands, Feeds, IsTidying, Goes}
 
 pub begin : (kept : Kept) (rows : List PRow) → Stands kept.is_over kept.rows.items [] → IsTidying (tidied rows) kept rows
 begin kept rows s = record { rows = []; stands = s; is = refl }

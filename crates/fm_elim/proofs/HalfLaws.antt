@@ -1,11 +1,9 @@
 -- The rows with one of them in two halves.
-use Rattle.std.specs.Prelude.{◌≡◌, ℕ, zero, suc, ◌+◌, ◌-◌, ◌<◌, ◌≤◌, ◌==◌, negsuc, List, [], ◌∷◌, ◌++◌, length, take, drop, slice_get, Bool, true, false, refl}
-use Rattle.std.proofs.Common.{ap, sym, ◌∙◌, subst, arith}
-use Rattle.mm_poly.specs.Poly.{scaled}
+use Rattle.std.specs.Prelude.{◌≡◌, ℕ, zero, suc, ◌+◌, ◌<◌, ◌==◌, List, [], ◌∷◌, length, true, false, refl}
+use Rattle.std.proofs.Common.{ap, ◌∙◌, arith}
 use Rattle.cert_kit.specs.declared.row.PRow.{PRow}
-use Rattle.cert_kit.specs.Meaning.{at_least_0}
-use Rattle.fm_elim.specs.Steps.{halved, poly_at}
-use Rattle.fm_elim.specs.machine.Halves.{half_of, other_half_of, parts_at, halved_from}
+use Rattle.fm_elim.specs.Steps.{halved}
+use Rattle.fm_elim.specs.machine.Halves.{half_of, other_half_of, halved_from}
 
 past : (rows : List PRow) (k n : ℕ) → k < n → halved_from rows k n ≡ rows
 past [] k n h = refl

@@ -18,3 +18,11 @@ pub mod ChoiceLaws
 pub mod RunLaws
 pub mod RemovalLaws
 pub mod GivingLaws
+pub mod PartLaws
+pub mod LoggingLaws
+pub mod ShallowLaws
+pub mod SolveLaws
+pub mod PruningLaws
+pub mod NumberLaws
+pub mod FuelLaws
+pub mod MarkLaws

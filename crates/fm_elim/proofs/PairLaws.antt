@@ -40,11 +40,11 @@ pub record IsUpper (u : List (ℕ × ℕ)) (r : PRow) : Type 0 where
   pub above : 0 < unsigned_abs (coeff_in u r)
   pub sign : coeff_in u r ≡ neg_ℤ (pos (unsigned_abs (coeff_in u r)))
 
-above_sign : (c : ℤ) → int_lt (pos 0) c ≡ true → (0 < unsigned_abs c) × (c ≡ pos (unsigned_abs c))
+pub above_sign : (c : ℤ) → int_lt (pos 0) c ≡ true → (0 < unsigned_abs c) × (c ≡ pos (unsigned_abs c))
 above_sign (pos n) e = (grind (arith, ints), refl)
 above_sign (negsuc n) e = absurd (grind (arith, ints))
 
-below_sign : (c : ℤ) → int_lt c (pos 0) ≡ true → (0 < unsigned_abs c) × (c ≡ neg_ℤ (pos (unsigned_abs c)))
+pub below_sign : (c : ℤ) → int_lt c (pos 0) ≡ true → (0 < unsigned_abs c) × (c ≡ neg_ℤ (pos (unsigned_abs c)))
 below_sign (pos n) e = absurd (grind (arith, ints))
 below_sign (negsuc n) e = (omega arith, refl)
 
@@ -84,7 +84,7 @@ ones u rows e = by_test (list_all (λ r. int_le (coeff_in u r) (pos 1)) rows) re
 
 -- a pair leaves room for a whole number
 
-pair_cancels : (a b : ℕ) (c d : ℤ) → c ≡ pos a → d ≡ neg_ℤ (pos b) → pos b *ℤ c +ℤ pos a *ℤ d ≡ pos 0
+pub pair_cancels : (a b : ℕ) (c d : ℤ) → c ≡ pos a → d ≡ neg_ℤ (pos b) → pos b *ℤ c +ℤ pos a *ℤ d ≡ pos 0
 pair_cancels a b c d e f =
     ap (λ z. pos b *ℤ z +ℤ pos a *ℤ d) e
     ∙ ap (λ z. pos b *ℤ pos a +ℤ z) (ap (λ z. pos a *ℤ z) f ∙ mul_neg (pos a) (pos b) ∙ ap neg_ℤ (*ℤ_comm (pos a) (pos b)))

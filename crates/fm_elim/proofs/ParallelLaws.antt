@@ -1,5 +1,5 @@
 -- The place of a parallel row, and what putting a row there comes to.
-use Rattle.std.specs.Prelude.{◌≡◌, ◌↔◌, ℕ, suc, ◌+◌, ◌<◌, length, List, [], ◌∷◌, ◌++◌, Bool, true, false, ◌||◌, ◌≤◌, IsTrue, Option, Some, None, slice_get, refl, if◌then◌else◌}
+use Rattle.std.specs.Prelude.{◌≡◌, ◌↔◌, ℕ, suc, ◌+◌, ◌<◌, length, List, [], ◌∷◌, ◌++◌, Bool, true, false, ◌||◌, ◌≤◌, IsTrue, Some, None, slice_get, refl, if◌then◌else◌}
 use Rattle.std.proofs.Common.{get_or, ap, sym, ◌∙◌, subst, arith}
 use Rattle.std.specs.List.{remove}
 use Rattle.std.specs.Cmp.{IsTotalOrder, on_total, then_total, tied_itself}
@@ -17,7 +17,7 @@ use Rattle.cert_kit.specs.Row.{has_no_terms, is_false}
 use Rattle.cert_kit.specs.Cut.{cut_of}
 use Rattle.fm_elim.specs.declared.live.Live.{Live}
 use Rattle.fm_elim.specs.declared.kept.Kept.{Kept}
-use Rattle.fm_elim.specs.Tidy.{is_inequality, are_parallel, is_tighter, tighter, put, is_constant_row, kept_after, cuts, has_false}
+use Rattle.fm_elim.specs.Tidy.{is_inequality, are_parallel, is_tighter, tighter, put, is_constant_row, cuts, has_false}
 use Rattle.fm_elim.specs.machine.Tidying.{rows_of, parallel_from, Stands, Feeds}
 use Rattle.fm_elim.proofs.TidyLaws.{same_terms, length_kept}
 

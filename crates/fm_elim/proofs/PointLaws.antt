@@ -72,7 +72,7 @@ given_value : (v : Values) (u : List (ℕ × ℕ)) (p : List Term) → IsPoly p 
     → linear_value (with_weight v u (neg_ℤ (coeff_of p u *ℤ rest_of u v p))) p ≡ pos 0
 given_value v u p h e = linear_set v u (neg_ℤ (coeff_of p u *ℤ rest_of u v p)) p h ∙ cancels (coeff_of p u) (rest_of u v p) e
 
-taken_out : (c s : ℤ) → s *ℤ s ≡ pos 1 → c +ℤ neg_ℤ (c *ℤ s) *ℤ s ≡ pos 0
+pub taken_out : (c s : ℤ) → s *ℤ s ≡ pos 1 → c +ℤ neg_ℤ (c *ℤ s) *ℤ s ≡ pos 0
 taken_out c s e =
     ap (λ z. c +ℤ z) (neg_mul (c *ℤ s) s ∙ ap neg_ℤ (assoc c s s ∙ ap (λ z. c *ℤ z) e ∙ *ℤ_comm c (pos 1) ∙ one_mul c)) ∙ opposite c
   where

@@ -31,7 +31,7 @@ poly_at_poly rows k a = poly_of rows (slice_get rows k) (λ r e. all_at IsPolyRo
 pub remove_all : (P : PRow → Type 0) (rows : List PRow) (k : ℕ) → AllByRecursion P rows → AllByRecursion P (remove rows k)
 remove_all P rows k a = all_both P (take k rows) (drop (suc k) rows) (all_take P k rows a) (all_drop P (suc k) rows a)
 
-poly_substituted : (u : List (ℕ × ℕ)) (p : List Term) (r : PRow) → IsPoly p → IsPolyRow r → IsPolyRow (substituted u p r)
+pub poly_substituted : (u : List (ℕ × ℕ)) (p : List Term) (r : PRow) → IsPoly p → IsPolyRow r → IsPolyRow (substituted u p r)
 poly_substituted u p r h k = by_if (int_eq (coeff_in u r) (pos 0)) r _ IsPolyRow (λ e. k) (λ e. poly_plus r.poly _ k (poly_scaled _ p h))
 
 pub solved_polys : (k : ℕ) (u : List (ℕ × ℕ)) (rows after : List PRow) → AllByRecursion IsPolyRow rows → solved u (poly_at k rows) (remove rows k) ≡ Ok after → AllByRecursion IsPolyRow after
@@ -46,10 +46,10 @@ halved_polys k rows a =
     all_both IsPolyRow (take k rows) _ (all_take IsPolyRow k rows a)
     (poly_at_poly rows k a, (poly_scaled (negsuc 0) (poly_at k rows) (poly_at_poly rows k a), all_drop IsPolyRow (suc k) rows a))
 
-poly_combined : (u : List (ℕ × ℕ)) (l h : PRow) → IsPolyRow l → IsPolyRow h → IsPolyRow (combined u l h)
+pub poly_combined : (u : List (ℕ × ℕ)) (l h : PRow) → IsPolyRow l → IsPolyRow h → IsPolyRow (combined u l h)
 poly_combined u l h a b = poly_plus _ _ (poly_scaled (pos (unsigned_abs (coeff_in u h))) l.poly a) (poly_scaled (pos (unsigned_abs (coeff_in u l))) h.poly b)
 
-combined_polys : (u : List (ℕ × ℕ)) (ls hs : List PRow) → AllByRecursion IsPolyRow ls → AllByRecursion IsPolyRow hs → AllByRecursion IsPolyRow (combined_all u ls hs)
+pub combined_polys : (u : List (ℕ × ℕ)) (ls hs : List PRow) → AllByRecursion IsPolyRow ls → AllByRecursion IsPolyRow hs → AllByRecursion IsPolyRow (combined_all u ls hs)
 combined_polys u [] hs a b = tt
 combined_polys u (l ∷ ls) hs a b =
     all_both IsPolyRow (map (combined u l) hs) (combined_all u ls hs)

@@ -1,23 +1,22 @@
 -- What stands of the removals of an outcome.
-use Rattle.std.specs.Prelude.{◌≡◌, ℕ, zero, suc, ◌≤◌, max, ℤ, pos, ◌*ℤ◌, unsigned_abs, List, [], ◌∷◌, ◌++◌, map, slice_get, Bool, true, false, int_lt, Option, Some, None, Result, Ok, Err, refl}
-use Rattle.std.proofs.Common.{ap, sym, ◌∙◌, subst, arith}
+use Rattle.std.specs.Prelude.{◌≡◌, ℕ, zero, suc, ◌≤◌, max, ℤ, pos, unsigned_abs, List, [], ◌∷◌, slice_get, Bool, true, false, int_lt, Some, Result, Ok, Err, refl}
+use Rattle.std.proofs.Common.{sym, subst, arith}
 use Rattle.std.proofs.lemmas.Int.{ints}
 use Rattle.std.specs.List.{AllByRecursion, remove}
 use Rattle.mm_num.specs.Result.{◌>>=◌}
 use Rattle.mm_poly.specs.declared.term.Term.{Term}
 use Rattle.mm_poly.specs.Poly.{norm, coeff_of}
-use Rattle.mm_poly.proofs.CaseLaws.{by_if}
 use Rattle.cert_kit.specs.declared.row.PRow.{PRow}
 use Rattle.fm_elim.specs.declared.rule.Rule.{Rule}
 use Rattle.fm_elim.specs.declared.rule.Rule.TheVariants.{Finished, Solve, Halve, Exact, Inexact}
 use Rattle.fm_elim.specs.declared.removal.Removal.{Removal}
 use Rattle.fm_elim.specs.declared.removal.Removal.TheVariants.{Solved, Bounded}
-use Rattle.fm_elim.specs.Unknowns.{coeff_in, without, lowers, uppers}
-use Rattle.fm_elim.specs.Tidy.{End, Contra, Point, Grey, Over, tidied, kept_after, cuts}
-use Rattle.fm_elim.specs.Steps.{rule_of, poly_at, substituted, solve_has_room, solved, halved, combined_all, pairs_have_room, eliminated}
+use Rattle.fm_elim.specs.Unknowns.{coeff_in, lowers, uppers}
+use Rattle.fm_elim.specs.Tidy.{End, tidied, kept_after, cuts}
+use Rattle.fm_elim.specs.Steps.{rule_of, poly_at, solved, halved, eliminated}
 use Rattle.fm_elim.specs.Elimination.{Outcome, next, greatest_norm, by_rule, outcome_in, enough_steps, outcome}
 use Rattle.fm_elim.specs.machine.Giving.{IsBound, IsRemoval}
-use Rattle.fm_elim.proofs.ListLaws.{all_at, all_with, all_filter, all_zip}
+use Rattle.fm_elim.proofs.ListLaws.{all_at, all_with, all_filter}
 use Rattle.fm_elim.proofs.TidyLaws.{IsPolyRow, by_tidied, kept_tidy}
 use Rattle.fm_elim.proofs.RuleLaws.{Applies, IsGivenAt, rule_applies}
 use Rattle.fm_elim.proofs.PolyRowLaws.{solved_polys, halved_polys, eliminated_polys}

@@ -125,7 +125,7 @@ unknowns_are (r ∷ rows) = unknowns_with r.poly (unknowns rows) (unknowns_are r
 
 -- where none is left, no row is
 
-by_unknown : (m u : List (ℕ × ℕ)) (us : List (List (ℕ × ℕ))) (P : List (List (ℕ × ℕ)) → Type 0) → P (m ∷ u ∷ us) → P (u ∷ us) → P (u ∷ with_unknown m us) → P (with_unknown m (u ∷ us))
+pub by_unknown : (m u : List (ℕ × ℕ)) (us : List (List (ℕ × ℕ))) (P : List (List (ℕ × ℕ)) → Type 0) → P (m ∷ u ∷ us) → P (u ∷ us) → P (u ∷ with_unknown m us) → P (with_unknown m (u ∷ us))
 by_unknown m u us P l e g = by_cases (mono_cmp m u) (λ h. rw (h, with_unknown) l) (λ h. rw (h, with_unknown) e) (λ h. rw (h, with_unknown) g)
 
 unknown_there : (m : List (ℕ × ℕ)) (us : List (List (ℕ × ℕ))) → with_unknown m us ≡ [] → ⊥
@@ -193,3 +193,34 @@ rule_applies rows = by_solve (solvable_from rows 0) refl
         → Applies rows (solve_or o (halve_or (equality_from rows 0) (exact_or (first_exact rows (unknowns rows)) (first_of (unknowns rows)))))
     by_solve (Some e) h = let f = solvable_is rows 0 e h in let q : f.0 ≡ e.0 = omega (arith, f.1) in subst (λ k. IsGivenAt rows k e.1) q f.2
     by_solve None h = by_halve (equality_from rows 0) refl
+
+-- where an unknown is eliminated, there is no equality
+
+abbrev pub Eliminates : Rule → Type 0
+Eliminates Finished = ⊥
+Eliminates (Solve k u) = ⊥
+Eliminates (Halve k) = ⊥
+Eliminates (Exact u) = Unit {0}
+Eliminates (Inexact u) = Unit {0}
+
+inequal_op : (o : Op) → is_inequality o ≡ true → o ≡ Ge
+inequal_op Ge e = refl
+inequal_op Eq e = absurd cc
+
+inequal_rows : (rows : List PRow) → AllByRecursion IsInequality rows → AllByRecursion (λ (r : PRow). r.op ≡ Ge) rows
+inequal_rows [] a = tt
+inequal_rows (r ∷ rows) a = (inequal_op r.op a.0, inequal_rows rows a.1)
+
+pub no_equalities : (rows : List PRow) → Eliminates (rule_of rows) → AllByRecursion (λ (r : PRow). r.op ≡ Ge) rows
+no_equalities rows h = by_solve (solvable_from rows 0) h
+  where
+    by_halve : (o : Option ℕ) → equality_from rows 0 ≡ o → Eliminates (halve_or o (exact_or (first_exact rows (unknowns rows)) (first_of (unknowns rows))))
+        → AllByRecursion (λ (r : PRow). r.op ≡ Ge) rows
+    by_halve (Some k) e h = absurd h
+    by_halve None e h = inequal_rows rows (no_equality rows 0 e)
+
+    by_solve : (o : Option (ℕ × List (ℕ × ℕ)))
+        → Eliminates (solve_or o (halve_or (equality_from rows 0) (exact_or (first_exact rows (unknowns rows)) (first_of (unknowns rows)))))
+        → AllByRecursion (λ (r : PRow). r.op ≡ Ge) rows
+    by_solve (Some e) h = absurd h
+    by_solve None h = by_halve (equality_from rows 0) refl h

@@ -1,24 +1,24 @@
 -- An elimination goes on by one rule.
-use Rattle.std.specs.Prelude.{◌≡◌, ℕ, zero, suc, false, ◌<◌, ◌*◌, ◌*ℤ◌, max, ℤ, pos, unsigned_abs, List, [], ◌∷◌, ◌++◌, length, map, take, drop, slice_get, Bool, Option, Some, None, Result, Ok, Err, refl}
+use Rattle.std.specs.Prelude.{◌≡◌, ℕ, zero, suc, false, ◌<◌, ◌*◌, ◌*ℤ◌, max, ℤ, pos, unsigned_abs, List, [], ◌∷◌, ◌++◌, length, map, take, drop, slice_get, Bool, Some, Result, refl}
 use Rattle.std.proofs.Common.{ap, sym, ◌∙◌, subst, append_assoc, get_or, arith}
 use Rattle.std.proofs.lemmas.List.{length-map, map-append}
-use Rattle.std.proofs.lemmas.Int.{ints, unsigned_abs-mul}
+use Rattle.std.proofs.lemmas.Int.{unsigned_abs-mul}
 use Rattle.std.proofs.lemmas.Option.{slice_get_read, slice_get_within, same_Some}
 use Rattle.std.specs.List.{remove}
 use Rattle.std.specs.Option.{option_map_or}
 use Rattle.mm_poly.specs.declared.term.Term.{Term}
 use Rattle.mm_poly.specs.Poly.{IsPoly, coeff_of}
+use Rattle.cert_kit.specs.declared.row.Op.TheVariants.{Eq}
 use Rattle.cert_kit.specs.declared.row.PRow.{PRow}
 use Rattle.fm_elim.specs.declared.live.Live.{Live}
 use Rattle.fm_elim.specs.declared.sides.Side.{Side}
 use Rattle.fm_elim.specs.declared.sides.Parts.{Parts}
-use Rattle.fm_elim.specs.declared.rule.Rule.{Rule}
-use Rattle.fm_elim.specs.declared.rule.Rule.TheVariants.{Finished, Solve, Halve, Exact, Inexact}
+use Rattle.fm_elim.specs.declared.rule.Rule.TheVariants.{Solve, Halve, Exact, Inexact}
 use Rattle.fm_elim.specs.declared.removal.Removal.{Removal}
 use Rattle.fm_elim.specs.declared.removal.Removal.TheVariants.{Solved, Bounded}
-use Rattle.fm_elim.specs.Unknowns.{without, lowers, uppers}
+use Rattle.fm_elim.specs.Unknowns.{lowers, uppers}
 use Rattle.fm_elim.specs.Tidy.{End}
-use Rattle.fm_elim.specs.Steps.{rule_of, poly_at, solved, halved, eliminated}
+use Rattle.fm_elim.specs.Steps.{rule_of, poly_at, solved, eliminated}
 use Rattle.fm_elim.specs.Elimination.{Outcome, removing, next, by_rule, outcome_in}
 use Rattle.fm_elim.specs.machine.Tidying.{rows_of, then_tidied}
 use Rattle.fm_elim.specs.machine.Sides.{sides_of, sums_of, IsSplit}
@@ -78,6 +78,20 @@ given_unit lives k u x e s h =
     let same : g.row ≡ x.row = same_Some g.row x.row (sym g.here ∙ row_there lives k x s) in
     let p : IsPoly g.row.poly = subst (λ (r : PRow). IsPoly r.poly) (sym same) h in
     magnitude_one (coeff_of x.row.poly u) (subst (λ (r : PRow). coeff_of r.poly u *ℤ coeff_of r.poly u ≡ pos 1) same (g.unit p).square)
+
+-- the rows of these rules are equalities
+
+pub given_equality : (lives : List Live) (k : ℕ) (u : List (ℕ × ℕ)) (x : Live) → rule_of (rows_of lives) ≡ Solve k u → slice_get lives k ≡ Some x → x.row.op ≡ Eq
+given_equality lives k u x e s =
+    let g : IsGivenAt (rows_of lives) k u = subst (Applies (rows_of lives)) e (rule_applies (rows_of lives)) in
+    let same : g.row ≡ x.row = same_Some g.row x.row (sym g.here ∙ row_there lives k x s) in
+    ap (λ (r : PRow). r.op) (sym same) ∙ g.equality
+
+pub halved_equality : (lives : List Live) (k : ℕ) (x : Live) → rule_of (rows_of lives) ≡ Halve k → slice_get lives k ≡ Some x → x.row.op ≡ Eq
+halved_equality lives k x e s =
+    let g : IsEqualityAt (rows_of lives) k = subst (Applies (rows_of lives)) e (rule_applies (rows_of lives)) in
+    let same : g.row ≡ x.row = same_Some g.row x.row (sym g.here ∙ row_there lives k x s) in
+    ap (λ (r : PRow). r.op) (sym same) ∙ g.equality
 
 wrapped_removing : (rs : List Removal) (m : ℕ) (r : Removal) (o : Outcome) → wrapped rs m (removing r o) ≡ wrapped (rs ++ r ∷ []) m o
 wrapped_removing rs m r o = ap (λ (q : List Removal). let w : Outcome = record { end = o.end; removed = q; norm = max m o.norm } in w) (sym (append_assoc rs (r ∷ []) o.removed))

@@ -1,14 +1,14 @@
 -- A multiple by 1, and a row with its unknown taken out.
-use Rattle.std.specs.Prelude.{◌≡◌, ℕ, ◌+◌, ◌*◌, ◌^◌, ◌<◌, ◌≤◌, ℤ, pos, ◌*ℤ◌, neg_ℤ, unsigned_abs, List, [], ◌∷◌, Bool, true, false, ◌||◌, ◌&&◌, nat_lt, nat_le, refl}
-use Rattle.std.proofs.Common.{ap, sym, ◌∙◌, subst, arith}
+use Rattle.std.specs.Prelude.{◌≡◌, ℕ, ◌+◌, ◌*◌, ◌^◌, ◌<◌, ◌≤◌, ℤ, pos, ◌*ℤ◌, neg_ℤ, unsigned_abs, List, [], ◌∷◌, Bool, true, false, ◌||◌, nat_lt, nat_le, refl}
+use Rattle.std.proofs.Common.{ap, sym, ◌∙◌, arith}
 use Rattle.std.specs.Ordering.{int_eq}
 use Rattle.std.proofs.lemmas.Bool.{and_parts}
+use Rattle.mm_num.proofs.TestLaws.{is_int}
 use Rattle.mm_poly.specs.declared.term.Term.{Term}
 use Rattle.mm_poly.specs.Poly.{IsPoly, norm, spread, coeff_of, with_coeff, plus, scaled}
 use Rattle.mm_poly.proofs.SumLaws.{with_nonzero}
 use Rattle.mm_poly.proofs.ValueLaws.{one_mul}
 use Rattle.cert_kit.specs.declared.row.PRow.{PRow}
-use Rattle.cert_kit.specs.Meaning.{at_least_0}
 use Rattle.fm_elim.specs.Unknowns.{coeff_in}
 use Rattle.fm_elim.specs.Steps.{has_room, substituted, solve_has_room}
 
@@ -46,3 +46,10 @@ room_for u p r e n =
 pub taken_out : (u : List (ℕ × ℕ)) (p : List Term) (r : PRow) (times : ℤ) → int_eq (coeff_in u r) (pos 0) ≡ false → times ≡ neg_ℤ (coeff_of r.poly u *ℤ coeff_of p u)
     → substituted u p r ≡ record { poly = plus r.poly (scaled times p); op = r.op }
 taken_out u p r times n e = rw n (ap (λ k. let a : PRow = record { poly = plus r.poly (scaled k p); op = r.op } in a) (sym e))
+
+pub nonzero_test : (c : ℤ) → (c ≡ pos 0 → ⊥) → int_eq c (pos 0) ≡ false
+nonzero_test c h = by_test (int_eq c (pos 0)) refl
+  where
+    by_test : (b : Bool) → int_eq c (pos 0) ≡ b → b ≡ false
+    by_test true e = absurd (h (is_int c (pos 0) e))
+    by_test false e = refl

@@ -5,3 +5,6 @@ pub mod Choice
 pub mod Running
 pub mod Giving
 pub mod Ending
+pub mod Logging
+pub mod Logged
+pub mod Pruning

@@ -1,6 +1,6 @@
 //! What holds of eliminations, said by functions that do nothing: each clause is a law for callers.
 
-ghost use Rattle.std.specs.Prelude.{◌≡◌, ◌↔◌, ◌⊎◌, ◌<◌, ℕ, ℤ, pos, ◌+ℤ◌, ◌*ℤ◌, ◌≤ℤ◌, neg_ℤ, List, Ok, Err};
+ghost use Rattle.std.specs.Prelude.{◌≡◌, ◌↔◌, ◌⊎◌, ◌<◌, ◌+◌, ℕ, true, ℤ, pos, ◌+ℤ◌, ◌*ℤ◌, ◌≤ℤ◌, neg_ℤ, List, Ok, Err};
 ghost use Rattle.std.specs.List.{AllByRecursion, remove};
 ghost use Rattle.mm_num.specs.Quotient.{floor_by};
 ghost use Rattle.cert_kit.specs.declared.row.PRow.{PRow};
@@ -8,7 +8,8 @@ ghost use Rattle.cert_kit.specs.Row.{Solves, HasNoSolution};
 ghost use Rattle.fm_elim.specs.declared.rule.Rule.TheVariants.{Solve, Halve};
 ghost use Rattle.fm_elim.specs.Tidy.{Contra, Point, tidied};
 ghost use Rattle.fm_elim.specs.Steps.{rule_of, poly_at, solved, halved, eliminated};
-ghost use Rattle.fm_elim.specs.Elimination.{outcome, elimination};
+ghost use Rattle.fm_elim.specs.Elimination.{outcome_in, enough_steps, outcome, elimination};
+ghost use Rattle.fm_elim.specs.Answers.{Occurs, AreNumbered};
 ghost use Rattle.fm_elim.specs.Points.{HoldsBy, values_of, AreRows, AreLinear, point_at};
 
 /// Tidy rows have the integer solutions of the rows, and where tidying meets a contradiction there is none.
@@ -42,4 +43,14 @@ pub fn contradictions()
 pub fn points()
     ensures values { (rows : List PRow) → AreRows rows → elimination rows ≡ Point → AllByRecursion (HoldsBy (values_of (outcome rows).removed)) rows }
     ensures linear { (rows : List PRow) → AreRows rows → AreLinear rows → elimination rows ≡ Point → Solves (point_at rows) rows }
+{}
+
+/// Linear rows in which the variables below a number occur, and no others, have these variables as unknowns, in order.
+pub fn numbering()
+    ensures { (rows : List PRow) (n : ℕ) → AreRows rows → AreLinear rows → ((v : ℕ) → (v < n) ↔ Occurs v rows) → AreNumbered rows }
+{}
+
+/// More steps than are counted change nothing: each rule removes an unknown or an equality.
+pub fn enough()
+    ensures { (rows kept : List PRow) (k : ℕ) → AreRows rows → tidied rows ≡ Ok kept → outcome_in (enough_steps kept + k) true kept ≡ outcome_in (enough_steps kept) true kept }
 {}

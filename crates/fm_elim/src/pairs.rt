@@ -2,12 +2,14 @@ ghost use Rattle.std.specs.Prelude.{◌≡◌, map, IfOk, true};
 ghost use Rattle.std.specs.List.{AllByRecursion, list_all};
 ghost use Rattle.fm_elim.specs.Steps.{combined, combined_all, pair_has_room, pairs_have_room};
 ghost use Rattle.fm_elim.specs.machine.Sides.{IsSide, sides_of};
+ghost use Rattle.fm_elim.specs.machine.Logging.{IsLiveSide, IsLogged, Logs};
 ghost use Rattle.fm_elim.specs.machine.Tidying.{Goes};
 
 use crate::kept::Kept;
-use crate::log::{Log, Origin, Source};
+use crate::log::Log;
 use crate::room::{combination, has_room};
 use crate::sides::Side;
+use crate::source::{Origin, Source};
 use cert_kit::{Op, PRow};
 use mm_poly::Mono;
 use std::alloc::{AllocError, Global};
@@ -52,7 +54,7 @@ fn pair_has_room(unknown: &Mono, lower: &Side, upper: &Side) -> bool
 pub fn take_sums(
     alloc: Global,
     kept: &mut Kept,
-    log: &mut Log,
+    log: &mut Log<'_>,
     unknown: &Mono,
     lower: &Side,
     uppers: &[Side],
@@ -60,7 +62,11 @@ pub fn take_sums(
     requires lower { IsSide unknown.now lower.now }
     requires uppers { AllByRecursion (IsSide unknown.now) uppers.now }
     requires room { list_all (pair_has_room unknown.now lower.now.live.row) (sides_of uppers.now) ≡ true }
-    ensures { IfOk result (λ found. Goes found kept.old kept.new (map (combined unknown.now lower.now.live.row) (sides_of uppers.now))) }
+    requires logged { IsLogged log.old kept.old.rows.items }
+    requires live_lower { IsLiveSide log.old lower.now }
+    requires live_uppers { AllByRecursion (IsLiveSide log.old) uppers.now }
+    ensures goes { IfOk result (λ found. Goes found kept.old kept.new (map (combined unknown.now lower.now.live.row) (sides_of uppers.now))) }
+    ensures logged { IfOk result (λ found. Logs found log.old log.new kept.new.rows.items) }
 {
     for upper in uppers {
         let sum = sum(alloc, unknown, lower, upper)?;
@@ -102,7 +108,7 @@ fn sum(alloc: Global, unknown: &Mono, lower: &Side, upper: &Side) -> Result<PRow
 pub fn take_all_sums(
     alloc: Global,
     kept: &mut Kept,
-    log: &mut Log,
+    log: &mut Log<'_>,
     unknown: &Mono,
     lowers: &[Side],
     uppers: &[Side],
@@ -110,7 +116,11 @@ pub fn take_all_sums(
     requires lowers { AllByRecursion (IsSide unknown.now) lowers.now }
     requires uppers { AllByRecursion (IsSide unknown.now) uppers.now }
     requires room { pairs_have_room unknown.now (sides_of lowers.now) (sides_of uppers.now) ≡ true }
-    ensures { IfOk result (λ found. Goes found kept.old kept.new (combined_all unknown.now (sides_of lowers.now) (sides_of uppers.now))) }
+    requires logged { IsLogged log.old kept.old.rows.items }
+    requires live_lowers { AllByRecursion (IsLiveSide log.old) lowers.now }
+    requires live_uppers { AllByRecursion (IsLiveSide log.old) uppers.now }
+    ensures goes { IfOk result (λ found. Goes found kept.old kept.new (combined_all unknown.now (sides_of lowers.now) (sides_of uppers.now))) }
+    ensures logged { IfOk result (λ found. Logs found log.old log.new kept.new.rows.items) }
 {
     for lower in lowers {
         if take_sums(alloc, kept, log, unknown, lower, uppers)? {

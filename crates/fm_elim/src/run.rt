@@ -1,4 +1,4 @@
-ghost use Rattle.std.specs.Prelude.{◌≡◌, ◌≤◌, ◌<◌, ◌^◌, ℕ, suc, true, length, Result, List, IfOk};
+ghost use Rattle.std.specs.Prelude.{◌≡◌, ◌≤◌, ◌<◌, ◌^◌, ℕ, suc, true, length, Result, List, [], slice_get, Some, IfOk};
 ghost use Rattle.cert_kit.specs.declared.row.PRow.{PRow as ARow};
 ghost use Rattle.fm_elim.specs.declared.rule.Rule.TheVariants.{Finished as IsFinished, Solve as IsSolve, Halve as IsHalve, Exact as IsExact, Inexact as IsInexact};
 ghost use Rattle.fm_elim.specs.Tidy.{End, tidied};
@@ -6,15 +6,22 @@ ghost use Rattle.fm_elim.specs.Steps.{rule_of};
 ghost use Rattle.fm_elim.specs.Elimination.{Outcome, greatest_norm, next, outcome_in, enough_steps, outcome};
 ghost use Rattle.fm_elim.specs.machine.Sides.{sides_of};
 ghost use Rattle.fm_elim.specs.machine.Tidying.{rows_of, StepsTo};
+ghost use Rattle.std.specs.List.{AllByRecursion};
+ghost use Rattle.cert_kit.specs.declared.row.Op.TheVariants.{Ge as IsInequal};
+ghost use Rattle.cert_kit.specs.Cut.{cut_of};
+ghost use Rattle.fm_elim.specs.declared.log.Log.{Log as ALog};
+ghost use Rattle.fm_elim.specs.machine.Logging.{IsOrigin, IsLogged, LogsStep, all_rows};
+ghost use Rattle.fm_elim.specs.machine.Logged.{LogsRan, LogsNext};
 ghost use Rattle.fm_elim.specs.machine.Running.{wrapped, IsRunning, IsRuling, IsRan, IsNext};
 
 use crate::choice::next_rule;
 use crate::kept::Kept;
 use crate::live::Live;
-use crate::log::{Log, Origin, Source};
+use crate::log::Log;
 use crate::removal::Removal;
 use crate::rule::Rule;
 use crate::sides::{Side, split};
+use crate::source::{Origin, Source};
 use crate::standing::{eliminate, halve};
 use crate::state::{Next, Ran, State};
 use crate::step::solve;
@@ -25,9 +32,12 @@ use sqlite_items::Items;
 use std::alloc::{AllocError, Global};
 
 /// The outcome of the elimination of rows.
-pub fn run(alloc: Global, log: &mut Log, rows: &[PRow]) -> Result<Ran, AllocError>
-    requires { length rows.now < 2 ^ 32 }
-    ensures { IfOk result (λ r. IsRan r (outcome rows.now)) }
+pub fn run(alloc: Global, log: &mut Log<'_>, rows: &[PRow]) -> Result<Ran, AllocError>
+    requires length { length rows.now < 2 ^ 32 }
+    requires logged { IsLogged log.old [] }
+    requires fresh { all_rows log.old ≡ rows.now }
+    ensures ran { IfOk result (λ r. IsRan r (outcome rows.now)) }
+    ensures logged { IfOk result (λ r. LogsRan r log.old log.new) }
 {
     match tidy_rows(alloc, log, rows)? {
         Stepped::Rows(kept) => {
@@ -40,9 +50,12 @@ pub fn run(alloc: Global, log: &mut Log, rows: &[PRow]) -> Result<Ran, AllocErro
 }
 
 // The rows tidied.
-fn tidy_rows(alloc: Global, log: &mut Log, rows: &[PRow]) -> Result<Stepped, AllocError>
-    requires { length rows.now < 2 ^ 32 }
-    ensures { IfOk result (λ s. StepsTo s (tidied rows.now)) }
+fn tidy_rows(alloc: Global, log: &mut Log<'_>, rows: &[PRow]) -> Result<Stepped, AllocError>
+    requires length { length rows.now < 2 ^ 32 }
+    requires logged { IsLogged log.old [] }
+    requires fresh { all_rows log.old ≡ rows.now }
+    ensures rows { IfOk result (λ s. StepsTo s (tidied rows.now)) }
+    ensures logged { IfOk result (λ s. LogsStep s log.old log.new) }
 {
     let mut kept = Kept::new(alloc);
     for (n, row) in rows.iter().enumerate() {
@@ -55,7 +68,9 @@ fn tidy_rows(alloc: Global, log: &mut Log, rows: &[PRow]) -> Result<Stepped, All
 }
 
 // A row that is its own cut needs no step.
-fn origin_of(row: &PRow, number: u32) -> Origin {
+fn origin_of(row: &PRow, number: u32) -> Origin
+    ensures { (log : ALog) → slice_get (all_rows log) number ≡ Some row.now → IsOrigin log (cut_of row.now) result }
+{
     if row.poly.content() <= 1 {
         Origin::Stands(number)
     } else {
@@ -64,9 +79,11 @@ fn origin_of(row: &PRow, number: u32) -> Origin {
 }
 
 // The outcome of tidy rows.
-fn run_from(alloc: Global, log: &mut Log, rows: Vec<Live>) -> Result<Ran, AllocError>
-    requires { length rows.items ≤ 512 }
-    ensures { IfOk result (λ r. IsRan r (outcome_in (enough_steps (rows_of rows.items)) true (rows_of rows.items))) }
+fn run_from(alloc: Global, log: &mut Log<'_>, rows: Vec<Live>) -> Result<Ran, AllocError>
+    requires few { length rows.items ≤ 512 }
+    requires logged { IsLogged log.old rows.items }
+    ensures logged { IfOk result (λ r. LogsRan r log.old log.new) }
+    ensures ran { IfOk result (λ r. IsRan r (outcome_in (enough_steps (rows_of rows.items)) true (rows_of rows.items))) }
 {
     let mut left = count_steps(&rows);
     let mut state = State {
@@ -109,8 +126,10 @@ fn greatest_norm(rows: &[Live]) -> u128
 }
 
 // What comes after the rule that applies.
-fn step(alloc: Global, log: &mut Log, state: State) -> Result<Next, AllocError>
-    ensures { IfOk result (λ x. (n : ℕ) (whole : Outcome) → IsRunning whole (suc n) state → IsNext x n whole) }
+fn step(alloc: Global, log: &mut Log<'_>, state: State) -> Result<Next, AllocError>
+    requires { IsLogged log.old state.rows.items }
+    ensures next { IfOk result (λ x. (n : ℕ) (whole : Outcome) → IsRunning whole (suc n) state → IsNext x n whole) }
+    ensures logged { IfOk result (λ x. LogsNext x log.old log.new) }
 {
     let norm = state.norm.max(greatest_norm(&state.rows));
     let state = State {
@@ -124,9 +143,11 @@ fn step(alloc: Global, log: &mut Log, state: State) -> Result<Next, AllocError>
     Ok(after)
 }
 
-fn step_by(alloc: Global, log: &mut Log, state: State, rule: Rule) -> Result<Next, AllocError>
-    requires { rule ≡ rule_of (rows_of state.rows.items) }
-    ensures { IfOk result (λ x. (n : ℕ) (whole : Outcome) → IsRuling whole n state rule → IsNext x n whole) }
+fn step_by(alloc: Global, log: &mut Log<'_>, state: State, rule: Rule) -> Result<Next, AllocError>
+    requires rule { rule ≡ rule_of (rows_of state.rows.items) }
+    requires logged { IsLogged log.old state.rows.items }
+    ensures next { IfOk result (λ x. (n : ℕ) (whole : Outcome) → IsRuling whole n state rule → IsNext x n whole) }
+    ensures logged { IfOk result (λ x. LogsNext x log.old log.new) }
 {
     match rule {
         Rule::Finished => Ok(Next::Ended(finish(state))),
@@ -138,7 +159,8 @@ fn step_by(alloc: Global, log: &mut Log, state: State, rule: Rule) -> Result<Nex
 }
 
 fn finish(state: State) -> Ran
-    ensures { (n : ℕ) (whole : Outcome) → IsRuling whole n state IsFinished → IsRan result whole }
+    ensures ran { (n : ℕ) (whole : Outcome) → IsRuling whole n state IsFinished → IsRan result whole }
+    ensures logged { (before after : ALog) → LogsRan result before after }
 {
     if state.exact {
         Ran::Point(state.removed, state.norm)
@@ -149,8 +171,9 @@ fn finish(state: State) -> Ran
 
 // Goes on with the rows after a step.
 fn go_on(stepped: Stepped, exact: bool, removed: Vec<Removal>, norm: u128) -> Next
-    ensures { (n : ℕ) (answer : Result (List ARow) End) (whole : Outcome) → StepsTo stepped answer
+    ensures next { (n : ℕ) (answer : Result (List ARow) End) (whole : Outcome) → StepsTo stepped answer
         → whole ≡ wrapped removed.items norm (next (outcome_in n exact) answer) → IsNext result n whole }
+    ensures logged { (before after : ALog) → LogsStep stepped before after → LogsNext result before after }
 {
     match stepped {
         Stepped::Rows(rows) => Next::Going(State {
@@ -166,13 +189,15 @@ fn go_on(stepped: Stepped, exact: bool, removed: Vec<Removal>, norm: u128) -> Ne
 
 fn step_solve(
     alloc: Global,
-    log: &mut Log,
+    log: &mut Log<'_>,
     state: State,
     place: usize,
     unknown: Mono,
 ) -> Result<Next, AllocError>
-    requires { rule_of (rows_of state.rows.items) ≡ IsSolve place unknown }
-    ensures { IfOk result (λ x. (n : ℕ) (whole : Outcome) → IsRuling whole n state (IsSolve place unknown) → IsNext x n whole) }
+    requires rule { rule_of (rows_of state.rows.items) ≡ IsSolve place unknown }
+    requires logged { IsLogged log.old state.rows.items }
+    ensures logged { IfOk result (λ x. LogsNext x log.old log.new) }
+    ensures next { IfOk result (λ x. (n : ℕ) (whole : Outcome) → IsRuling whole n state (IsSolve place unknown) → IsNext x n whole) }
 {
     let mut rows = state.rows;
     let equality = rows.remove(place);
@@ -183,16 +208,31 @@ fn step_solve(
     Ok(go_on(stepped, state.exact, removed, state.norm))
 }
 
-fn step_halve(alloc: Global, log: &mut Log, state: State, place: usize) -> Result<Next, AllocError>
-    requires { rule_of (rows_of state.rows.items) ≡ IsHalve place }
-    ensures { IfOk result (λ x. (n : ℕ) (whole : Outcome) → IsRuling whole n state (IsHalve place) → IsNext x n whole) }
+fn step_halve(
+    alloc: Global,
+    log: &mut Log<'_>,
+    state: State,
+    place: usize,
+) -> Result<Next, AllocError>
+    requires rule { rule_of (rows_of state.rows.items) ≡ IsHalve place }
+    requires logged { IsLogged log.old state.rows.items }
+    ensures logged { IfOk result (λ x. LogsNext x log.old log.new) }
+    ensures next { IfOk result (λ x. (n : ℕ) (whole : Outcome) → IsRuling whole n state (IsHalve place) → IsNext x n whole) }
 {
     let stepped = halve(alloc, log, state.rows, place)?;
     Ok(go_on(stepped, state.exact, state.removed, state.norm))
 }
 
-fn step_exact(alloc: Global, log: &mut Log, state: State, unknown: Mono) -> Result<Next, AllocError>
-    ensures { IfOk result (λ x. (n : ℕ) (whole : Outcome) → IsRuling whole n state (IsExact unknown) → IsNext x n whole) }
+fn step_exact(
+    alloc: Global,
+    log: &mut Log<'_>,
+    state: State,
+    unknown: Mono,
+) -> Result<Next, AllocError>
+    requires inequalities { AllByRecursion (λ (r : ARow). r.op ≡ IsInequal) (rows_of state.rows.items) }
+    requires logged { IsLogged log.old state.rows.items }
+    ensures logged { IfOk result (λ x. LogsNext x log.old log.new) }
+    ensures next { IfOk result (λ x. (n : ℕ) (whole : Outcome) → IsRuling whole n state (IsExact unknown) → IsNext x n whole) }
 {
     let parts = split(alloc, state.rows, &unknown)?;
     let stepped = eliminate(
@@ -212,11 +252,14 @@ fn step_exact(alloc: Global, log: &mut Log, state: State, unknown: Mono) -> Resu
 
 fn step_inexact(
     alloc: Global,
-    log: &mut Log,
+    log: &mut Log<'_>,
     state: State,
     unknown: Mono,
 ) -> Result<Next, AllocError>
-    ensures { IfOk result (λ x. (n : ℕ) (whole : Outcome) → IsRuling whole n state (IsInexact unknown) → IsNext x n whole) }
+    requires inequalities { AllByRecursion (λ (r : ARow). r.op ≡ IsInequal) (rows_of state.rows.items) }
+    requires logged { IsLogged log.old state.rows.items }
+    ensures logged { IfOk result (λ x. LogsNext x log.old log.new) }
+    ensures next { IfOk result (λ x. (n : ℕ) (whole : Outcome) → IsRuling whole n state (IsInexact unknown) → IsNext x n whole) }
 {
     let parts = split(alloc, state.rows, &unknown)?;
     let stepped = eliminate(

@@ -1,5 +1,5 @@
 ghost use Rattle.std.specs.Prelude.{◌≡◌, List, [], ◌∷◌, ◌++◌, IfOk, OnOk};
-ghost use Rattle.fm_elim.specs.machine.Sides.{IsSizeOf, IsSplit};
+ghost use Rattle.fm_elim.specs.machine.Sides.{IsSizeOf, IsSplit, AreParts};
 ghost use Rattle.fm_elim.specs.declared.live.Live.{Live as ALive};
 
 use crate::live::Live;
@@ -38,7 +38,8 @@ impl Parts {
 
     // Puts a row with the others of its kind.
     fn push(&mut self, live: Live, unknown: &Mono) -> Result<(), AllocError>
-        ensures { OnOk result ((lives : List ALive) → IsSplit unknown.now lives self.old → IsSplit unknown.now (lives ++ live ∷ []) self.new) }
+        ensures rows { OnOk result ((lives : List ALive) → IsSplit unknown.now lives self.old → IsSplit unknown.now (lives ++ live ∷ []) self.new) }
+        ensures lives { OnOk result ((lives : List ALive) → AreParts unknown.now lives self.old → AreParts unknown.now (lives ++ live ∷ []) self.new) }
     {
         let coeff = live.row.poly.coefficient(unknown);
         if coeff == 0 {
@@ -63,7 +64,8 @@ fn side_of(live: Live, coeff: u128) -> Side
 
 /// The rows, split by an unknown.
 pub fn split(alloc: Global, rows: Vec<Live>, unknown: &Mono) -> Result<Parts, AllocError>
-    ensures { IfOk result (IsSplit unknown.now rows.items) }
+    ensures rows { IfOk result (IsSplit unknown.now rows.items) }
+    ensures lives { IfOk result (AreParts unknown.now rows.items) }
 {
     let mut parts = Parts::new(alloc);
     for live in rows {

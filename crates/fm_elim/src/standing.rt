@@ -1,16 +1,20 @@
-ghost use Rattle.std.specs.Prelude.{◌≡◌, ◌<◌, length, ◌∷◌, [], IfOk};
+ghost use Rattle.std.specs.Prelude.{◌≡◌, ◌<◌, length, ◌∷◌, [], true, slice_get, Some, IfOk};
+ghost use Rattle.fm_elim.specs.declared.live.Live.{Live as ALive};
 ghost use Rattle.std.specs.List.{AllByRecursion};
 ghost use Rattle.fm_elim.specs.Tidy.{tidied};
 ghost use Rattle.fm_elim.specs.Steps.{halved};
 ghost use Rattle.fm_elim.specs.machine.Sides.{IsSide, sides_of, sums_of};
 ghost use Rattle.fm_elim.specs.machine.Halves.{half_of, other_half_of, parts_at};
+ghost use Rattle.cert_kit.specs.declared.row.Op.TheVariants.{Eq as IsEquality};
+ghost use Rattle.fm_elim.specs.machine.Logging.{IsLive, IsLiveSide, IsLogged, Logs, LogsStep};
 ghost use Rattle.fm_elim.specs.machine.Tidying.{rows_of, Goes, StepsTo, then_tidied};
 
 use crate::kept::Kept;
 use crate::live::Live;
-use crate::log::{Log, Origin, Source};
+use crate::log::Log;
 use crate::pairs::{pairs_have_room, take_all_sums};
 use crate::sides::Side;
+use crate::source::{Origin, Source};
 use crate::stepped::Stepped;
 use cert_kit::{Op, PRow};
 use mm_poly::Mono;
@@ -19,7 +23,7 @@ use std::alloc::{AllocError, Global};
 /// The rows without an unknown and the sums of its pairs, tidied.
 pub fn eliminate(
     alloc: Global,
-    log: &mut Log,
+    log: &mut Log<'_>,
     without: Vec<Live>,
     lowers: &[Side],
     uppers: &[Side],
@@ -27,7 +31,11 @@ pub fn eliminate(
 ) -> Result<Stepped, AllocError>
     requires lowers { AllByRecursion (IsSide unknown.now) lowers.now }
     requires uppers { AllByRecursion (IsSide unknown.now) uppers.now }
-    ensures { IfOk result (λ s. StepsTo s (then_tidied (sums_of unknown.now (rows_of without.items) (sides_of lowers.now) (sides_of uppers.now)))) }
+    requires logged { IsLogged log.old without.items }
+    requires live_lowers { AllByRecursion (IsLiveSide log.old) lowers.now }
+    requires live_uppers { AllByRecursion (IsLiveSide log.old) uppers.now }
+    ensures rows { IfOk result (λ s. StepsTo s (then_tidied (sums_of unknown.now (rows_of without.items) (sides_of lowers.now) (sides_of uppers.now)))) }
+    ensures logged { IfOk result (λ s. LogsStep s log.old log.new) }
 {
     if !pairs_have_room(unknown, lowers, uppers) {
         return Ok(Stepped::Over);
@@ -46,10 +54,13 @@ pub fn eliminate(
 fn take_standing(
     alloc: Global,
     kept: &mut Kept,
-    log: &mut Log,
+    log: &mut Log<'_>,
     rows: Vec<Live>,
 ) -> Result<bool, AllocError>
-    ensures { IfOk result (λ found. Goes found kept.old kept.new (rows_of rows.items)) }
+    requires logged { IsLogged log.old kept.old.rows.items }
+    requires lives { AllByRecursion (IsLive log.old) rows.items }
+    ensures goes { IfOk result (λ found. Goes found kept.old kept.new (rows_of rows.items)) }
+    ensures logged { IfOk result (λ found. Logs found log.old log.new kept.new.rows.items) }
 {
     for live in rows {
         if kept.take(alloc, log, live.row, Origin::Stands(live.number))? {
@@ -62,12 +73,15 @@ fn take_standing(
 /// The rows with the equality at a place as two inequalities, tidied.
 pub fn halve(
     alloc: Global,
-    log: &mut Log,
+    log: &mut Log<'_>,
     rows: Vec<Live>,
     place: usize,
 ) -> Result<Stepped, AllocError>
-    requires { place < length rows.items }
-    ensures { IfOk result (λ s. StepsTo s (tidied (halved place (rows_of rows.items)))) }
+    requires place { place < length rows.items }
+    requires equality { (live : ALive) → slice_get rows.items place ≡ Some live → live.row.op ≡ IsEquality }
+    requires logged { IsLogged log.old rows.items }
+    ensures rows { IfOk result (λ s. StepsTo s (tidied (halved place (rows_of rows.items)))) }
+    ensures logged { IfOk result (λ s. LogsStep s log.old log.new) }
 {
     let mut kept = Kept::new(alloc);
     let mut n = 0;
@@ -84,11 +98,15 @@ pub fn halve(
 fn take_parts(
     alloc: Global,
     kept: &mut Kept,
-    log: &mut Log,
+    log: &mut Log<'_>,
     live: Live,
     is_halved: bool,
 ) -> Result<bool, AllocError>
-    ensures { IfOk result (λ found. Goes found kept.old kept.new (parts_at is_halved live.row)) }
+    requires logged { IsLogged log.old kept.old.rows.items }
+    requires live { IsLive log.old live }
+    requires equality { is_halved ≡ true → live.row.op ≡ IsEquality }
+    ensures goes { IfOk result (λ found. Goes found kept.old kept.new (parts_at is_halved live.row)) }
+    ensures logged { IfOk result (λ found. Logs found log.old log.new kept.new.rows.items) }
 {
     if !is_halved {
         let found = kept.take(alloc, log, live.row, Origin::Stands(live.number))?;
@@ -101,10 +119,14 @@ fn take_parts(
 fn take_halves(
     alloc: Global,
     kept: &mut Kept,
-    log: &mut Log,
+    log: &mut Log<'_>,
     live: Live,
 ) -> Result<bool, AllocError>
-    ensures { IfOk result (λ found. Goes found kept.old kept.new (half_of live.row ∷ other_half_of live.row ∷ [])) }
+    requires logged { IsLogged log.old kept.old.rows.items }
+    requires live { IsLive log.old live }
+    requires equality { live.row.op ≡ IsEquality }
+    ensures goes { IfOk result (λ found. Goes found kept.old kept.new (half_of live.row ∷ other_half_of live.row ∷ [])) }
+    ensures logged { IfOk result (λ found. Logs found log.old log.new kept.new.rows.items) }
 {
     let other = PRow {
         poly: live.row.poly.copy(alloc)?.negated(),

@@ -5,12 +5,15 @@ ghost use Rattle.mm_poly.specs.Poly.{coeff_of, norm, spread, plus, scaled};
 ghost use Rattle.fm_elim.specs.Unknowns.{coeff_in};
 ghost use Rattle.fm_elim.specs.Tidy.{tidied};
 ghost use Rattle.fm_elim.specs.Steps.{has_room, substituted, solve_has_room, solved};
+ghost use Rattle.cert_kit.specs.declared.row.Op.TheVariants.{Eq as IsEquality};
+ghost use Rattle.fm_elim.specs.machine.Logging.{IsLive, IsLogged, Logs, LogsStep};
 ghost use Rattle.fm_elim.specs.machine.Tidying.{rows_of, Feeds, StepsTo, then_tidied};
 
 use crate::kept::Kept;
 use crate::live::Live;
-use crate::log::{Log, Origin, Source};
+use crate::log::Log;
 use crate::room::{combination, has_room, size_of};
+use crate::source::{Origin, Source};
 use crate::stepped::Stepped;
 use cert_kit::PRow;
 use mm_poly::{Mono, Poly};
@@ -19,13 +22,17 @@ use std::alloc::{AllocError, Global};
 /// The other rows without an unknown whose value an equality gives, tidied. Its coefficient there is 1 or -1.
 pub fn solve(
     alloc: Global,
-    log: &mut Log,
+    log: &mut Log<'_>,
     others: Vec<Live>,
     equality: &Live,
     unknown: &Mono,
 ) -> Result<Stepped, AllocError>
-    requires { unsigned_abs (coeff_of equality.now.row.poly unknown.now) ≡ 1 }
-    ensures { IfOk result (λ s. StepsTo s (then_tidied (solved unknown.now equality.now.row.poly (rows_of others.items)))) }
+    requires unit { unsigned_abs (coeff_of equality.now.row.poly unknown.now) ≡ 1 }
+    requires logged { IsLogged log.old others.items }
+    requires equality { IsLive log.old equality.now }
+    requires equal { equality.now.row.op ≡ IsEquality }
+    ensures rows { IfOk result (λ s. StepsTo s (then_tidied (solved unknown.now equality.now.row.poly (rows_of others.items)))) }
+    ensures logged { IfOk result (λ s. LogsStep s log.old log.new) }
 {
     if !all_have_room(&others, equality, unknown) {
         return Ok(Stepped::Over);
@@ -68,14 +75,19 @@ fn has_room_with(live: &Live, equality: &Live, unknown: &Mono) -> bool
 fn substitute(
     alloc: Global,
     kept: &mut Kept,
-    log: &mut Log,
+    log: &mut Log<'_>,
     live: Live,
     equality: &Live,
     unknown: &Mono,
 ) -> Result<bool, AllocError>
     requires unit { unsigned_abs (coeff_of equality.now.row.poly unknown.now) ≡ 1 }
     requires room { solve_has_room unknown.now equality.now.row.poly (live.row ∷ []) ≡ true }
-    ensures { IfOk result (λ found. Feeds found kept.old kept.new (substituted unknown.now equality.now.row.poly live.row ∷ [])) }
+    requires logged { IsLogged log.old kept.old.rows.items }
+    requires live { IsLive log.old live }
+    requires equality { IsLive log.old equality.now }
+    requires equal { equality.now.row.op ≡ IsEquality }
+    ensures feeds { IfOk result (λ found. Feeds found kept.old kept.new (substituted unknown.now equality.now.row.poly live.row ∷ [])) }
+    ensures logged { IfOk result (λ found. Logs found log.old log.new kept.new.rows.items) }
 {
     let coeff = live.row.poly.coefficient(unknown);
     if coeff == 0 {

@@ -1,12 +1,17 @@
 ghost use Rattle.std.specs.Prelude.{◌≡◌, List, [], ◌∷◌, ◌++◌, false, Some, Result, IfOk, OnOk};
 ghost use Rattle.cert_kit.specs.declared.row.PRow.{PRow};
 ghost use Rattle.fm_elim.specs.Tidy.{End, put};
+ghost use Rattle.mm_poly.specs.Poly.{Fits};
+ghost use Rattle.cert_kit.specs.Cut.{cut_of};
+ghost use Rattle.fm_elim.specs.declared.log.Log.{Log as ALog};
+ghost use Rattle.fm_elim.specs.machine.Logging.{IsOrigin, CanKeep, IsLogged, Logs, LogsStep};
 ghost use Rattle.fm_elim.specs.machine.Tidying.{rows_of, parallel_from, Stands, Feeds, IsTidying, StepsTo};
 
 use crate::kept::Kept;
 use crate::live::Live;
-use crate::log::{Log, Origin};
+use crate::log::Log;
 use crate::parallel::{is_tighter, parallel_place};
+use crate::source::Origin;
 use crate::stepped::Stepped;
 use cert_kit::{PRow, false_row};
 use std::alloc::{AllocError, Global};
@@ -17,7 +22,8 @@ const MOST_ROWS: usize = 512;
 impl Kept {
     /// Nothing was taken yet.
     pub fn new(alloc: Global) -> Kept
-        ensures { Stands result.is_over result.rows.items [] }
+        ensures stands { Stands result.is_over result.rows.items [] }
+        ensures rows { result.rows.items ≡ [] }
     {
         Kept {
             rows: Vec::new(alloc),
@@ -29,13 +35,16 @@ impl Kept {
     pub fn take(
         &mut self,
         alloc: Global,
-        log: &mut Log,
+        log: &mut Log<'_>,
         row: PRow,
         origin: Origin,
     ) -> Result<bool, AllocError>
-        ensures { IfOk result (λ found. Feeds found self.old self.new (row ∷ [])) }
+        requires logged { IsLogged log.old self.old.rows.items }
+        requires origin { IsOrigin log.old (cut_of row) origin }
+        ensures feeds { IfOk result (λ found. Feeds found self.old self.new (row ∷ [])) }
+        ensures logged { IfOk result (λ found. Logs found log.old log.new self.new.rows.items) }
     {
-        let row = row.into_cut(alloc)?;
+        let row = tidy_cut(alloc, row)?;
         if false_row(&row) {
             log.close(origin)?;
             return Ok(true);
@@ -49,7 +58,8 @@ impl Kept {
 
     /// What tidying comes to when nothing more comes.
     pub fn end(self) -> Stepped
-        ensures { (answer : Result (List PRow) End) → IsTidying answer self [] → StepsTo result answer }
+        ensures steps { (answer : Result (List PRow) End) → IsTidying answer self [] → StepsTo result answer }
+        ensures logged { (before after : ALog) → Logs false before after self.rows.items → LogsStep result before after }
     {
         if self.is_over {
             Stepped::Over
@@ -59,9 +69,11 @@ impl Kept {
     }
 
     // Keeps a row, unless a parallel one before it has a constant that isn't greater.
-    fn put(&mut self, log: &mut Log, row: PRow, origin: Origin) -> Result<(), AllocError>
-        requires { self.old.is_over ≡ false }
-        ensures { OnOk result (Stands self.new.is_over self.new.rows.items (put row (rows_of self.old.rows.items))) }
+    fn put(&mut self, log: &mut Log<'_>, row: PRow, origin: Origin) -> Result<(), AllocError>
+        requires over { self.old.is_over ≡ false }
+        requires logged { CanKeep log.old self.old.rows.items row origin }
+        ensures stands { OnOk result (Stands self.new.is_over self.new.rows.items (put row (rows_of self.old.rows.items))) }
+        ensures logged { OnOk result (Logs false log.old log.new self.new.rows.items) }
     {
         match parallel_place(&self.rows, &row) {
             None => self.append(log, row, origin),
@@ -72,14 +84,16 @@ impl Kept {
     // Keeps a row in place of the one at a place, where it has the lesser constant.
     fn put_at(
         &mut self,
-        log: &mut Log,
+        log: &mut Log<'_>,
         row: PRow,
         origin: Origin,
         place: usize,
     ) -> Result<(), AllocError>
         requires over { self.old.is_over ≡ false }
         requires parallel { parallel_from self.old.rows.items row 0 ≡ Some place }
-        ensures { OnOk result (Stands self.new.is_over self.new.rows.items (put row (rows_of self.old.rows.items))) }
+        requires logged { CanKeep log.old self.old.rows.items row origin }
+        ensures stands { OnOk result (Stands self.new.is_over self.new.rows.items (put row (rows_of self.old.rows.items))) }
+        ensures logged { OnOk result (Logs false log.old log.new self.new.rows.items) }
     {
         if !is_tighter(&row, &self.rows[place].row) {
             return Ok(());
@@ -89,9 +103,11 @@ impl Kept {
     }
 
     // Keeps a row after the others, where there is room.
-    fn append(&mut self, log: &mut Log, row: PRow, origin: Origin) -> Result<(), AllocError>
-        requires { self.old.is_over ≡ false }
-        ensures { OnOk result (Stands self.new.is_over self.new.rows.items (rows_of self.old.rows.items ++ row ∷ [])) }
+    fn append(&mut self, log: &mut Log<'_>, row: PRow, origin: Origin) -> Result<(), AllocError>
+        requires over { self.old.is_over ≡ false }
+        requires logged { CanKeep log.old self.old.rows.items row origin }
+        ensures stands { OnOk result (Stands self.new.is_over self.new.rows.items (rows_of self.old.rows.items ++ row ∷ [])) }
+        ensures logged { OnOk result (Logs false log.old log.new self.new.rows.items) }
     {
         if self.rows.len() >= MOST_ROWS {
             self.is_over = true;
@@ -101,4 +117,16 @@ impl Kept {
         self.rows.push(Live { row, number })?;
         Ok(())
     }
+}
+
+// The cut of a row, which is its own cut.
+fn tidy_cut(alloc: Global, row: PRow) -> Result<PRow, AllocError>
+    ensures cut { IfOk result (λ r. r ≡ cut_of row) }
+    ensures itself { IfOk result (λ r. cut_of r ≡ r) }
+    ensures fits { IfOk result (λ r. Fits r.poly) }
+{
+    let _ = row.poly.spread();
+    let cut = row.into_cut(alloc)?;
+    let _ = cut.poly.spread();
+    Ok(cut)
 }

@@ -7,7 +7,7 @@ use Rattle.fm_elim.specs.declared.state.Ran.{Ran}
 use Rattle.fm_elim.specs.declared.state.Ran.TheVariants as ran
 use Rattle.fm_elim.specs.declared.state.Next.{Next}
 use Rattle.fm_elim.specs.declared.state.Next.TheVariants as after
-use Rattle.fm_elim.specs.Tidy.{End, Contra, Point, Grey, Over}
+use Rattle.fm_elim.specs.Tidy.{Contra, Point, Grey, Over}
 use Rattle.fm_elim.specs.Elimination.{Outcome, by_rule, outcome_in}
 use Rattle.fm_elim.specs.machine.Tidying.{rows_of}
 

@@ -1,4 +1,4 @@
-use Rattle.std.proofs.Common.{◌≡◌, drop, ◌&&◌, pos, negsuc}
+use Rattle.std.proofs.Common.{◌≡◌, drop, ◌&&◌}
 use Rattle.std.specs.List.{list_all}
 use Rattle.fm_elim.specs.machine.Choice.{is_at_most_1, is_at_least_minus_1}
 use Rattle.fm_elim.specs.machine.Tidying.{rows_of}

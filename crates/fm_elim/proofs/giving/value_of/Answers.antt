@@ -1,4 +1,4 @@
-use Rattle.std.proofs.Common.{◌≡◌, ◌<◌, ◌≤◌, ◌-◌, ◌+◌, unsigned_abs, Some, take, length, slice_get, ap, sym, ◌∙◌, refl, arith}
+use Rattle.std.proofs.Common.{◌≡◌, ◌<◌, ◌≤◌, ◌-◌, ◌+◌, unsigned_abs, take, length, ap, sym, ◌∙◌, refl, arith}
 use Rattle.std.proofs.lemmas.Option.{slice_get_read}
 use Rattle.mm_num.specs.Small.{IsSmall}
 use Rattle.mm_num.proofs.FracLaws.{wide}

@@ -2,7 +2,6 @@ use Rattle.std.proofs.Common.{◌≡◌, ◌≤◌, ◌<◌, ◌^◌, ◌+◌, �
 use Rattle.std.proofs.lemmas.Int.{ints}
 use Rattle.std.specs.Int.{w128}
 use Rattle.mm_num.proofs.FracLaws.{wide}
-use Rattle.mm_poly.specs.Poly.{with_weight}
 use Rattle.fm_elim.specs.machine.Giving.{given}
 use Rattle.fm_elim.proofs.ParallelLaws.{differ}
 use Rattle.fm_elim.proofs.GivingLaws.{weight_here, weight_other, product_within, no_more, given_within}

@@ -1,4 +1,4 @@
-use Rattle.std.proofs.Common.{◌≡◌, List, pos, to_z, of_z, ap, ◌∙◌, arith}
+use Rattle.std.proofs.Common.{◌≡◌, List, to_z, of_z, ap, ◌∙◌, arith}
 use Rattle.std.proofs.lemmas.Int.{ints}
 use Rattle.std.specs.Int.{w128}
 use Rattle.mm_poly.specs.declared.term.Term.{Term}
