@@ -1,0 +1,9 @@
+pub mod PlacingLaws
+pub mod WitnessLaws
+pub mod LinearLaws
+pub mod ReachLaws
+pub mod TryingLaws
+pub mod AnswerLaws
+pub mod KeyNameLaws
+pub mod PrintLaws
+pub mod PushLaws

@@ -1,0 +1,5 @@
+pub mod Answering
+pub mod KeyName
+pub mod Line
+pub mod Reply
+pub mod machine
