@@ -1,0 +1,4 @@
+pub mod PairingLaws
+pub mod ReportLaws
+pub mod ServingLaws
+pub mod RightLaws

@@ -1,0 +1,4 @@
+pub mod Pairing
+pub mod Report
+pub mod Serving
+pub mod Rightness
