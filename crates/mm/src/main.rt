@@ -1,4 +1,5 @@
-//! The program `mm`: it reads rows and one certificate from its input, and writes what the rules say of them.
+//! The program `mm`: it reads goals from its input and writes a report of certificates and counterexamples, or rows and one
+//! certificate, and writes what the rules say of them.
 //!
 //! `main` hands the real devices and the words of the command line to `mm_run::run`.
 #![tactic(auto)]

@@ -1,59 +1,81 @@
--- When an ending is due, and what `accepted` means.
-use Rattle.std.specs.Prelude.{◌≡◌, ℕ, ◌≤◌, List, [], ◌∷◌, ◌++◌, length, map, Option, Some, None, Result, Ok, Err, IfOk, IfSome, refl}
-use Rattle.std.proofs.Common.{sym, ◌∙◌, ap, subst, arith, get_or, append-nil}
+-- When an ending is due, and which are those of refusals.
+use Rattle.std.specs.Prelude.{◌≡◌, ℕ, ◌<◌, ◌≤◌, List, [], ◌++◌, length, Option, Some, None, Result, Ok, Err, IfOk, IfSome, ◌⊎◌, refl}
+use Rattle.std.proofs.Common.{sym, ◌∙◌, ap, subst, arith, append-nil, inl, inr}
 use Rattle.std.specs.Io.KnownBytes.{Consumes, IsAtEnd}
-use Rattle.cert_kit.specs.declared.row.PRow.{PRow}
-use Rattle.cert_kit.specs.declared.cert.Cert.{Cert}
-use Rattle.cert_kit.proofs.FaultLaws.{no_fault_good}
-use Rattle.cert_kit.proofs.SoundLaws.{accepted_sound}
-use Rattle.cert_check.specs.declared.checking.Verdict.TheVariants.{Accepted, Rejected, Size}
+use Rattle.mm_run.specs.declared.words.Command.{Command}
+use Rattle.mm_run.specs.declared.words.Command.TheVariants.{Check, Prove}
 use Rattle.mm_run.specs.declared.ending.Ending.{Ending}
-use Rattle.mm_run.specs.declared.ending.Ending.TheVariants.{Usage, TooLong, Bad, Checked}
-use Rattle.mm_run.specs.declared.top.RunFail.{RunFail}
-use Rattle.mm_run.specs.Ending.{IsCheckWord, TextCallsFor, CallsFor, status_of, IsUnsolvable, HasVerdict}
-use Rattle.cert_check.proofs.VerdictLaws.{accepted_is}
+use Rattle.mm_run.specs.declared.ending.Ending.TheVariants.{Usage, TooLong, Bad, Long, Many, Checked, Reported}
+use Rattle.mm_run.specs.declared.fail.RunFail.{RunFail}
+use Rattle.mm_run.specs.Words.{Asks, input_limit}
+use Rattle.mm_run.specs.Ending.{InputCallsFor, BytesCallFor, CallsFor, status_of, IsNoInput, IsRefusal}
+use Rattle.mm_run.proofs.WordLaws.{one_limit, one_kind}
 
-unknown_due : (words : List (List ℕ)) (bytes : List ℕ) (e : Ending) → IsCheckWord words → TextCallsFor bytes e → CallsFor words None e
-unknown_due words bytes Usage w t = absurd t
-unknown_due words bytes TooLong w t = (w, tt)
-unknown_due words bytes (Bad at) w t = (w, tt)
-unknown_due words bytes (Checked v) w t = (w, tt)
-
-known_due : (words : List (List ℕ)) (bytes : List ℕ) (e : Ending) → IsCheckWord words → TextCallsFor bytes e → CallsFor words (Some bytes) e
-known_due words bytes Usage w t = absurd t
-known_due words bytes TooLong w t = (w, t)
-known_due words bytes (Bad at) w t = (w, t)
-known_due words bytes (Checked v) w t = (w, t)
+-- ---- due
 
 all_read : (xs bytes ys : List ℕ) → xs ≡ bytes ++ ys → ys ≡ [] → bytes ≡ xs
 all_read xs bytes ys h e = sym (h ∙ ap (λ r. bytes ++ r) e ∙ append-nil bytes)
 
+-- bytes that were read to the end are those that were left
+left_is : (left now : Option (List ℕ)) (bytes : List ℕ) → Consumes left now bytes → IsAtEnd now → IfSome left (λ k. bytes ≡ k)
+left_is None now bytes c a = tt
+left_is (Some xs) None bytes c a = absurd c
+left_is (Some xs) (Some ys) bytes c a = all_read xs bytes ys c a
+
+known : (P : List ℕ → Type 0) (left : Option (List ℕ)) (bytes : List ℕ) → IfSome left (λ k. bytes ≡ k) → P bytes → IfSome left P
+known P None bytes k p = tt
+known P (Some xs) bytes k p = subst P k p
+
+calls_for : (words : List (List ℕ)) (left : Option (List ℕ)) (c : Command) (bytes : List ℕ) (e : Ending) → Asks words c → IfSome left (λ k. bytes ≡ k)
+    → length bytes ≤ input_limit c → InputCallsFor c bytes e → CallsFor words left e
+calls_for words left Check bytes Usage a k l t = absurd t
+calls_for words left (Prove n) bytes Usage a k l t = absurd t
+calls_for words left Check bytes TooLong a k l t = absurd t
+calls_for words left (Prove n) bytes TooLong a k l t = absurd t
+calls_for words left c bytes (Bad at) a k l t = (c, a, known (λ b. BytesCallFor c b (Bad at)) left bytes k (l, t))
+calls_for words left c bytes (Long at) a k l t = (c, a, known (λ b. BytesCallFor c b (Long at)) left bytes k (l, t))
+calls_for words left c bytes (Many at) a k l t = (c, a, known (λ b. BytesCallFor c b (Many at)) left bytes k (l, t))
+calls_for words left c bytes (Checked v) a k l t = (c, a, known (λ b. BytesCallFor c b (Checked v)) left bytes k (l, t))
+calls_for words left c bytes (Reported text proved) a k l t = (c, a, known (λ b. BytesCallFor c b (Reported text proved)) left bytes k (l, t))
+
 -- what the bytes that were read call for is due
-pub read_due : (words : List (List ℕ)) (left now : Option (List ℕ)) (bytes : List ℕ) (r : Result Ending RunFail) → IsCheckWord words
-    → Consumes left now bytes → IsAtEnd now → IfOk r (TextCallsFor bytes) → IfOk r (CallsFor words left)
-read_due words left now bytes (Err f) w c a t = tt
-read_due words None now bytes (Ok e) w c a t = unknown_due words bytes e w t
-read_due words (Some xs) None bytes (Ok e) w c a t = absurd c
-read_due words (Some xs) (Some ys) bytes (Ok e) w c a t =
-    subst (λ (k : List ℕ). CallsFor words (Some k) e) (all_read xs bytes ys c a) (known_due words bytes e w t)
+pub read_due : (words : List (List ℕ)) (left now : Option (List ℕ)) (c : Command) (bytes : List ℕ) (r : Result Ending RunFail) → Asks words c
+    → Consumes left now bytes → IsAtEnd now → length bytes ≤ input_limit c → IfOk r (InputCallsFor c bytes) → IfOk r (CallsFor words left)
+read_due words left now c bytes (Err f) a h e l t = tt
+read_due words left now c bytes (Ok ending) a h e l t = calls_for words left c bytes ending a (left_is left now bytes h e) l t
 
-accepted_unsolvable : (bytes : List ℕ) → HasVerdict bytes Accepted → IsUnsolvable bytes
-accepted_unsolvable bytes h =
-    let good = no_fault_good h.1 h.0 (accepted_is _ (sym h.4)) in
-    (h.0, h.1, h.3, good, accepted_sound h.1 h.0 good.accepted)
+-- ---- refusals
 
--- status 0 is due only where no integer point solves the rows
-pub ending_sound : (words : List (List ℕ)) (left : Option (List ℕ)) (e : Ending) → CallsFor words left e → status_of e ≡ 0 → IfSome left IsUnsolvable
-ending_sound words None e c s = tt
-ending_sound words (Some bytes) (Checked Accepted) c s = accepted_unsolvable bytes c.1.1
-ending_sound words (Some bytes) (Checked Rejected) c s = absurd (omega (arith, s))
-ending_sound words (Some bytes) (Checked Size) c s = absurd (omega (arith, s))
-ending_sound words (Some bytes) Usage c s = absurd (omega (arith, s))
-ending_sound words (Some bytes) TooLong c s = absurd (omega (arith, s))
-ending_sound words (Some bytes) (Bad at) c s = absurd (omega (arith, s))
+-- bytes that are read are input of the command
+is_input : (c : Command) (bytes : List ℕ) (e : Ending) → InputCallsFor c bytes e → IsNoInput c bytes → status_of e ≡ 2
+is_input Check bytes (Checked v) h n = absurd (n h.0 h.1 h.2 h.3)
+is_input (Prove turns) bytes (Reported text proved) h n = absurd (n h.sessions h.file)
+is_input c bytes Usage h n = refl
+is_input c bytes TooLong h n = refl
+is_input c bytes (Bad at) h n = refl
+is_input c bytes (Long at) h n = refl
+is_input c bytes (Many at) h n = refl
+is_input (Prove turns) bytes (Checked v) h n = absurd h
+is_input Check bytes (Reported text proved) h n = absurd h
 
--- a list of one
-pub lone : {A B : Type 0} (f : A → B) (xs : List A) (x : A) → length xs ≡ 1 → x ≡ get_or xs 0 x → map f xs ≡ f x ∷ []
-lone f [] x h e = absurd (omega arith)
-lone f (y ∷ []) x h e = ap (λ k. f k ∷ []) (sym e)
-lone f (y ∷ z ∷ xs) x h e = absurd (omega arith)
+within : (words : List (List ℕ)) (c d : Command) (bytes : List ℕ) (e : Ending) → Asks words c → Asks words d → length bytes ≤ input_limit c → InputCallsFor c bytes e
+    → (input_limit d < length bytes) ⊎ IsNoInput d bytes → status_of e ≡ 2
+within words c d bytes e a b l h (inl long) = absurd (omega (arith, l, long, one_limit words c d a b))
+within words c d bytes e a b l h (inr unread) = is_input c bytes e h (one_kind (λ k. IsNoInput k bytes) (λ n m p. p) words d c b a unread)
+
+of_input : (words : List (List ℕ)) (left : Option (List ℕ)) (e : Ending)
+    → ((c : Command) (bytes : List ℕ) → BytesCallFor c bytes e → (length bytes ≤ input_limit c) × InputCallsFor c bytes e)
+    → (c : Command) × Asks words c × IfSome left (λ bytes. BytesCallFor c bytes e) → IsRefusal words left → status_of e ≡ 2
+of_input words left e f h (inl none) = absurd (none h.0 h.1)
+of_input words None e f h (inr r) = absurd r.2
+of_input words (Some bytes) e f h (inr r) = let i = f h.0 bytes h.2 in within words h.0 r.0 bytes e h.1 r.1 i.0 i.1 r.2
+
+-- words or input that are refused have status 2
+pub refusal_ends : (words : List (List ℕ)) (left : Option (List ℕ)) (e : Ending) → CallsFor words left e → IsRefusal words left → status_of e ≡ 2
+refusal_ends words left (Checked v) h r = of_input words left (Checked v) (λ c bytes p. p) h r
+refusal_ends words left (Reported text proved) h r = of_input words left (Reported text proved) (λ c bytes p. p) h r
+refusal_ends words left Usage h r = refl
+refusal_ends words left TooLong h r = refl
+refusal_ends words left (Bad at) h r = refl
+refusal_ends words left (Long at) h r = refl
+refusal_ends words left (Many at) h r = refl

@@ -1,1 +1,4 @@
+pub mod WordLaws
 pub mod EndingLaws
+pub mod SoundLaws
+pub mod CallingLaws

@@ -1,1 +1,4 @@
+pub mod Words
+pub mod Reporting
 pub mod Ending
+pub mod machine

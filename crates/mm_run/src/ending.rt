@@ -1,40 +1,50 @@
-ghost use Rattle.std.specs.Prelude.{◌≡◌, ◌++◌, IfOk, OnOk, codes, decimal};
-ghost use Rattle.mm_run.specs.Ending.{line_of, status_of, verdict_status};
+ghost use Rattle.std.specs.Prelude.{◌≡◌, ◌++◌, IfOk, OnOk, decimal};
+ghost use Rattle.mm_run.specs.Ending.{text_of, status_of, placed};
 
 use cert_check::Verdict;
 use std::alloc::{AllocError, Global};
 
 /// How a run ends, where neither memory nor a device fails it.
-#[derive(Clone, Copy, Debug, PartialEq, Eq)]
+#[derive(Debug, Drop)]
 pub enum Ending {
-    /// The words name no command.
+    /// The words ask for nothing that is there.
     Usage,
     /// There was more input than is read.
     TooLong,
-    /// The input is no rows and certificate: the place of the first line that doesn't fit.
+    /// The input can't be read: the place where it fails.
     Bad(u64),
+    /// A goal has too many tokens or variables: the place of the first one too many.
+    Long(u64),
+    /// There are too many sessions or goals: the place of the first one too many.
+    Many(u64),
     /// The verdict on the certificate.
     Checked(Verdict),
+    /// The report on the goals, and whether each of them is proved.
+    Reported(Vec<u8>, bool),
 }
 
-/// The line that is written, with its line feed.
-pub fn line(alloc: Global, ending: Ending) -> Result<Vec<u8>, AllocError>
-    ensures { IfOk result (λ line. line.items ≡ line_of ending) }
+/// The text that is written, each line with its line feed.
+pub fn text(alloc: Global, ending: Ending) -> Result<Vec<u8>, AllocError>
+    ensures { IfOk result (λ text. text.items ≡ text_of ending) }
 {
     match ending {
-        Ending::Usage => Vec::from_slice(alloc, b"usage: mm check\n"),
+        Ending::Usage => Vec::from_slice(alloc, b"usage: mm check | prove [--turns N]\n"),
         Ending::TooLong => Vec::from_slice(alloc, b"too long\n"),
-        Ending::Bad(at) => bad_line(alloc, at),
+        Ending::Bad(at) => placed(alloc, b"bad ", at),
+        Ending::Long(at) => placed(alloc, b"long ", at),
+        Ending::Many(at) => placed(alloc, b"many ", at),
         Ending::Checked(Verdict::Accepted) => Vec::from_slice(alloc, b"accepted\n"),
         Ending::Checked(Verdict::Rejected) => Vec::from_slice(alloc, b"rejected\n"),
         Ending::Checked(Verdict::Size) => Vec::from_slice(alloc, b"size\n"),
+        Ending::Reported(report, _) => Ok(report),
     }
 }
 
-fn bad_line(alloc: Global, at: u64) -> Result<Vec<u8>, AllocError>
-    ensures { IfOk result (λ line. line.items ≡ line_of (Ending.Bad at)) }
+// A word and a place, as a line.
+fn placed(alloc: Global, word: &[u8], at: u64) -> Result<Vec<u8>, AllocError>
+    ensures { IfOk result (λ line. line.items ≡ placed word.now at) }
 {
-    let mut line = Vec::from_slice(alloc, b"bad ")?;
+    let mut line = Vec::from_slice(alloc, word)?;
     push_number(&mut line, at)?;
     line.push(b'\n')?;
     Ok(line)
@@ -49,12 +59,12 @@ fn push_number(line: &mut Vec<u8>, number: u64) -> Result<(), AllocError>
 }
 
 /// The status of the program.
-pub fn status(ending: Ending) -> u8
-    ensures { result ≡ status_of ending }
+pub fn status(ending: &Ending) -> u8
+    ensures { result ≡ status_of ending.now }
 {
     match ending {
-        Ending::Usage | Ending::TooLong | Ending::Bad(_) => 2,
-        Ending::Checked(Verdict::Accepted) => 0,
-        Ending::Checked(Verdict::Rejected | Verdict::Size) => 1,
+        Ending::Usage | Ending::TooLong | Ending::Bad(_) | Ending::Long(_) | Ending::Many(_) => 2,
+        Ending::Checked(Verdict::Accepted) | Ending::Reported(_, true) => 0,
+        Ending::Checked(Verdict::Rejected | Verdict::Size) | Ending::Reported(_, false) => 1,
     }
 }
