@@ -8,6 +8,14 @@ pub enum Kind {
     Verdict,
     /// The line that `mm check` writes for these bytes, and the status.
     Check,
+    /// The answers of `mm prove` to the goals of these bytes, parted by `; `, and the status.
+    Prove,
+    /// The whole report, its line feeds as `%0a`, and the status.
+    Report,
+    /// How many certificates of the report `mm check` accepts with their rows, of how many.
+    Accepted,
+    /// What `mm` writes for the words before ` | ` and the bytes after it, and the status.
+    Words,
     /// What the rules say of a copy of the check that these bytes are, which is printed as they stand.
     Again,
     /// The sum of two polynomials, parted by `; `.
@@ -56,6 +64,8 @@ pub enum Kind {
     Key,
     /// How many bytes that key has, and its name.
     KeyName,
+    /// How the elimination of these rows, parted by `; `, ends.
+    Eliminate,
     /// How two rows, parted by `; `, compare.
     RowOrder,
 }
@@ -72,6 +82,10 @@ fn kind_of(word: &str) -> Option<Kind> {
     match word {
         "verdict" => Some(Kind::Verdict),
         "check" => Some(Kind::Check),
+        "prove" => Some(Kind::Prove),
+        "report" => Some(Kind::Report),
+        "accepted" => Some(Kind::Accepted),
+        "words" => Some(Kind::Words),
         "again" => Some(Kind::Again),
         "sum" => Some(Kind::Sum),
         "product" => Some(Kind::Product),
@@ -96,6 +110,7 @@ fn kind_of(word: &str) -> Option<Kind> {
         "clauses" => Some(Kind::Clauses),
         "key" => Some(Kind::Key),
         "key-name" => Some(Kind::KeyName),
+        "eliminate" => Some(Kind::Eliminate),
         "row-order" => Some(Kind::RowOrder),
         _ => None,
     }

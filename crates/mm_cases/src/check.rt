@@ -1,28 +1,11 @@
-use mm_io::{MemDisk, MemSink, MemSource};
-use mm_run::{Caches, OpenGate, run};
+use crate::program::run_with;
 use std::alloc::{AllocError, Global};
 use std::thread::Threads;
 
-fn disk(alloc: Global) -> MemDisk {
-    MemDisk::make(alloc, Vec::new(alloc), Vec::new(alloc), None)
-}
-
 /// What `mm check` writes for these bytes, without the line feed at its end, and the status after ` / `.
 pub fn line<R: Threads + Sync>(rt: &R, alloc: Global, input: &[u8]) -> Result<Vec<u8>, AllocError> {
-    let mut words = Vec::new(alloc);
-    words.push(String::from_str(alloc, "check")?)?;
-    let mut source = MemSource::make(Vec::from_slice(alloc, input)?, Vec::new(alloc));
-    let mut sink = MemSink::make(alloc, Vec::new(alloc));
-    let caches = Caches {
-        lia: disk(alloc),
-        nia: disk(alloc),
-    };
-    let ended = run(rt, alloc, &words, &mut source, &mut sink, caches, &OpenGate);
-    let mut answer = Vec::new(alloc);
-    answer.extend_from_slice(sink.bytes().strip_suffix(b"\n").unwrap_or(b"no line"))?;
-    let status = ended.status;
-    answer.extend_from_slice(format!(in alloc; " / {status}")?.as_bytes())?;
-    Ok(answer)
+    let written = run_with(rt, alloc, "check", input)?;
+    written.line(alloc)
 }
 
 fn push_row(text: &mut String, row: &str) -> Result<(), AllocError> {

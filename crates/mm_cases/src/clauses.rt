@@ -58,8 +58,8 @@ pub fn answer(alloc: Global, text: &[u8]) -> Result<Vec<u8>, AllocError> {
     }
 }
 
-// The clause of these rows, parted by `; `, if they are rows.
-fn clause_of(alloc: Global, rows: &str) -> Result<Option<Clause>, AllocError> {
+/// The clause of these rows, parted by `; `, if they are rows.
+pub fn clause_of(alloc: Global, rows: &str) -> Result<Option<Clause>, AllocError> {
     let mut text = String::new(alloc);
     for row in rows.split("; ") {
         if !row.is_empty() {

@@ -10,8 +10,11 @@ mod algebra;
 mod case;
 mod check;
 mod clauses;
+mod elimination;
 mod goal;
 mod parts;
+mod program;
+mod prove;
 mod reading;
 mod simplex;
 mod spelling;
@@ -31,6 +34,10 @@ fn answer_to<R: Threads + Sync>(rt: &R, alloc: Global, case: &Case) -> Result<Ve
     match case.kind {
         Kind::Verdict => check::verdict(rt, alloc, case.input),
         Kind::Check => check::line(rt, alloc, &input_of(alloc, case.input)?),
+        Kind::Prove => prove::answers(rt, alloc, case.input),
+        Kind::Report => prove::report(rt, alloc, case.input),
+        Kind::Accepted => prove::accepted(rt, alloc, case.input),
+        Kind::Words => prove::asked(rt, alloc, case.input),
         Kind::Again => algebra::again(alloc, &input_of(alloc, case.input)?),
         Kind::Sum => algebra::sum(alloc, case.input),
         Kind::Product => algebra::product(alloc, case.input),
@@ -54,6 +61,7 @@ fn answer_to<R: Threads + Sync>(rt: &R, alloc: Global, case: &Case) -> Result<Ve
         Kind::Clauses => clauses::answer(alloc, &input_of(alloc, case.input)?),
         Kind::Key => clauses::key_text(alloc, case.input),
         Kind::KeyName => clauses::name(alloc, case.input),
+        Kind::Eliminate => elimination::end(alloc, case.input),
         Kind::RowOrder => clauses::row_order(alloc, case.input),
         Kind::Count => translated::count(alloc, &input_of(alloc, case.input)?),
     }

@@ -52,9 +52,12 @@ fn outcome(
 fn other_words_get_the_usage_line(rt: HostRuntime) -> Result<(), Fail> {
     let alloc = rt.alloc();
     let good = b"row -1 >= 0\ncert done\n".as_slice();
-    for words in ["check check", "", "--help", "Check", "prove"] {
+    for words in ["check check", "", "--help", "Check", "prove --turns"] {
         let left = outcome(&rt, alloc, words, good, &[], &[])?;
-        assert_eq!(rt; left.written.as_slice(), b"usage: mm check\n".as_slice());
+        assert_eq!(rt;
+            left.written.as_slice(),
+            b"usage: mm check | prove [--turns N]\n".as_slice()
+        );
         assert_eq!(rt; left.status, 2);
     }
     Ok(())
@@ -65,9 +68,11 @@ fn a_device_that_fails_gives_status_5(rt: HostRuntime) -> Result<(), Fail> {
     let alloc = rt.alloc();
     let good = b"row -1 >= 0\ncert done\n".as_slice();
     // The source's first read fails, and then its second, which would have met the end.
-    for fails in [[0], [1]] {
-        let left = outcome(&rt, alloc, "check", good, &fails, &[])?;
-        assert_eq!(rt; (left.status, left.written.len()), (5, 0));
+    for words in ["check", "prove", "prove --turns 5"] {
+        for fails in [[0], [1]] {
+            let left = outcome(&rt, alloc, words, good, &fails, &[])?;
+            assert_eq!(rt; (left.status, left.written.len()), (5, 0));
+        }
     }
     let left = outcome(&rt, alloc, "check", good, &[], &[0])?;
     assert_eq!(rt; (left.status, left.written.len()), (5, 0));
