@@ -50,6 +50,16 @@ def some(count, unknowns, terms):
     return rows
 
 
+def differences(count, unknowns):
+    """Rows that bound the differences of unknowns."""
+    rows = []
+    for _ in range(count):
+        a, b = sorted(random.sample(range(unknowns), 2))
+        sign = random.choice([-1, 1])
+        rows.append(linear([(sign, a), (-sign, b)], random.randint(-9, 12)))
+    return rows
+
+
 def chain(length):
     """x0 >= 0, each x at least the one before it and 1, and the last one at most 0."""
     rows = [linear([(1, 0)], 0)]
@@ -76,10 +86,10 @@ def main():
     cases = sys.argv[1]
     repeats = int(sys.argv[2]) if len(sys.argv) > 2 else 5
     for name, clauses, made in (
-        ("1 by 1 pairs of 7 terms", [pairs(1, 1, 7) for _ in range(2000)], 1),
-        ("16 by 16 pairs of 7 terms", [pairs(16, 16, 7) for _ in range(50)], 256),
-        ("22 by 22 pairs of 7 terms", [pairs(22, 22, 7) for _ in range(50)], 484),
         ("256 by 256 pairs of 7 terms", [pairs(256, 256, 7) for _ in range(3)], 65536),
+        ("20 differences of 6 unknowns", [differences(20, 6) for _ in range(2000)], None),
+        ("40 differences of 6 unknowns", [differences(40, 6) for _ in range(1000)], None),
+        ("20 differences of 12 unknowns", [differences(20, 12) for _ in range(2000)], None),
         ("20 rows in 6 unknowns", [some(20, 6, 3) for _ in range(500)], None),
         ("40 rows in 6 unknowns", [some(40, 6, 3) for _ in range(200)], None),
         ("20 rows in 12 unknowns", [some(20, 12, 3) for _ in range(500)], None),
