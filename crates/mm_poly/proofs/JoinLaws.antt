@@ -70,7 +70,7 @@ total_ordered : (xs ys : List Term) (m : List (ℕ × ℕ)) → IsPermutation xs
 total_ordered xs ys m p = same_difference (total_of ys m) (total_of xs m) _ _ _ _
     (sum_by-IsPermutation (up_at m) xs ys p) (sum_by-IsPermutation (down_at m) xs ys p) (total_sums ys m) (total_sums xs m)
 
-coeff_joined : (ts : List Term) (m : List (ℕ × ℕ)) → AllNonZero ts → coeff_of (plus ts []) m ≡ total_of ts m
+pub coeff_joined : (ts : List Term) (m : List (ℕ × ℕ)) → AllNonZero ts → coeff_of (plus ts []) m ≡ total_of ts m
 coeff_joined ts m a = coeff_into ts [] m a tt ∙ sum_zero (total_of ts m)
 
 -- the order of the terms doesn't matter

@@ -35,3 +35,4 @@ pub mod KeepLaws
 pub mod RepeatedLaws
 pub mod RenamingLaws
 pub mod SingleLaws
+pub mod ExchangeLaws

@@ -18,21 +18,39 @@ pub fn product(alloc: Global, left: &[Term], right: &[Term]) -> Result<Vec<Term>
     requires degree { degree left.now + degree right.now ≤ 255 }
     ensures { IfOk result (λ terms. terms.items ≡ times left.now right.now) }
 {
+    // Each term of the first factor gives a run in order: few long runs are merged in less time than many short ones.
+    if left.len() <= right.len() {
+        product_of_runs(alloc, left, right)
+    } else {
+        product_of_runs(alloc, right, left)
+    }
+}
+
+// The product: each term of the left gives a run in order, since multiplying by a monomial keeps the order.
+fn product_of_runs(alloc: Global, left: &[Term], right: &[Term]) -> Result<Vec<Term>, AllocError>
+    requires left { IsPoly left.now }
+    requires right { IsPoly right.now }
+    requires left_monos { AllMono left.now }
+    requires right_monos { AllMono right.now }
+    requires small { norm left.now * norm right.now < 2 ^ 126 }
+    requires degree { degree left.now + degree right.now ≤ 255 }
+    ensures { IfOk result (λ terms. terms.items ≡ times left.now right.now) }
+{
     let terms = products(alloc, left, right)?;
-    if left.len() <= 1 || right.len() <= 1 {
-        // Multiplying by a monomial keeps the order.
+    if left.len() <= 1 {
         return Ok(terms);
     }
     join(alloc, terms)
 }
 
-/// Terms in any order, put in monomial order, with the sum for a monomial that several have.
+/// Terms in any order, put in monomial order, with the sum for a monomial that several have. Long runs that are in
+/// order already are only merged.
 pub fn join(alloc: Global, mut terms: Vec<Term>) -> Result<Vec<Term>, AllocError>
     requires nonzero { AllNonZero terms.items }
     requires small { norm terms.items < 2 ^ 126 }
     ensures { IfOk result (λ out. out.items ≡ plus terms.items []) }
 {
-    terms.sort_unstable_by(|first, second| first.mono.order(&second.mono));
+    terms.sort_by(|first, second| first.mono.order(&second.mono))?;
     let mut out = Vec::new(alloc);
     for term in terms {
         push_joined(&mut out, term)?;

@@ -9,8 +9,8 @@ use Rattle.mm_poly.proofs.JoinLaws.{comes_before, monomials_order, joined_ordere
 use Rattle.mm_poly.proofs.product.join.Goals as goal
 
 pub loop-term-init : goal.loop-term-init
-loop-term-init c = begin _ _ _ _ c.requires.nonzero c.requires.small c.sort_unstable_by.ensures.permutation
-    (c.sort_unstable_by.ensures.sorted comes_before monomials_order (answers_always _ _ _ (λ f a r g h. search rules)))
+loop-term-init c = begin _ _ _ _ c.requires.nonzero c.requires.small c.in_ok-sort_by.ensures.permutation
+    (c.in_ok-sort_by.ensures.sorted comes_before monomials_order (answers_always _ _ _ (λ f a r g h. search rules)))
     c.new-out.ensures.items c.into_iter-term-iterator.ensures.into_iter_gives.0
 
 pub push_joined-requires-clause-order : goal.push_joined-requires-clause-order
@@ -30,9 +30,9 @@ loop-term-preserved c = joining _ _ _ _ _ _ c.loop-term.invariant c.in-Some.ensu
 
 pub returns : goal.returns
 returns c =
-    let count : into_iter_len c.into_iter-term-iterator.result ≡ length c.sort_unstable_by.new.self.items = search rules in
+    let count : into_iter_len c.into_iter-term-iterator.result ≡ length c.sort_by.new.self.items = search rules in
     let all = YieldsList-end (YieldsList-from_vec _ c.into_iter-term-iterator.ensures.into_iter_gives.0 count) _ _ c.loop-term.yielded_by _ c.next.new.self c.in-None.is c.next.ensures.steps in
     c.shrink_to_fit.ensures.items
     ∙ c.loop-term.invariant.is
     ∙ ap (λ (ts : List Term). plus ts []) (sym (map-id c.loop-term.yielded) ∙ all.0)
-    ∙ joined_ordered _ _ c.requires.nonzero c.sort_unstable_by.ensures.permutation
+    ∙ joined_ordered _ _ c.requires.nonzero c.in_ok-sort_by.ensures.permutation
