@@ -24,7 +24,7 @@ by_divisor g Eq p h a P one none = by_test (unsigned_abs (constant_part p) % g =
     by_test false e = none e
 
 -- what holds of a row without unknowns, of the quotient by the content, and of the contradiction, holds of the cut
-by_cut : (r : PRow) → IsPoly r.poly → (P : PRow → Type 0) → ((content r.poly == 0) ≡ true → P r)
+pub by_cut : (r : PRow) → IsPoly r.poly → (P : PRow → Type 0) → ((content r.poly == 0) ≡ true → P r)
     → (0 < content r.poly → (k : Op) → P (record { poly = floor_divided (content r.poly) r.poly; op = k }))
     → (0 < content r.poly → (unsigned_abs (constant_part r.poly) % content r.poly == 0) ≡ false → P contradiction) → P (cut_of r)
 by_cut r a P same one none = by_test (content r.poly == 0) refl

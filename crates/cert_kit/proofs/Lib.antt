@@ -20,3 +20,4 @@ pub mod SinkLaws
 pub mod FrontLaws
 pub mod RowOrderLaws
 pub mod SolvingLaws
+pub mod OrderedLaws

@@ -1,5 +1,6 @@
 pub mod Row
 pub mod Order
+pub mod Variables
 pub mod Cut
 pub mod Meaning
 pub mod Acceptance

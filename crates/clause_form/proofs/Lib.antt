@@ -11,7 +11,6 @@ pub mod RowLaws
 pub mod PlanLaws
 pub mod WalkLaws
 pub mod PlaceLaws
-pub mod OrderedLaws
 pub mod SortLaws
 pub mod RenumberingLaws
 pub mod GoalPlanLaws

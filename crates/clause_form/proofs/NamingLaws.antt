@@ -2,81 +2,25 @@
 use Rattle.std.specs.Prelude.{◌≡◌, ℕ, suc, ◌+◌, ◌+ℤ◌, ◌*ℤ◌, List, [], ◌∷◌, ◌++◌, map, Bool, true, false, not, cond, ◌&&◌, ◌||◌, nat_eq, slice_index_or, refl}
 use Rattle.std.specs.List.{list_any, list_all}
 use Rattle.std.specs.Ordering.{nat_cmp}
-use Rattle.std.specs.declared.cmp.Ordering.{Ordering}
-use Rattle.std.specs.declared.cmp.Ordering.TheVariants.{Less, Equal, Greater}
-use Rattle.std.specs.FinMap.{IsAntisymmetric, nat_cmp-IsAntisymmetric}
+use Rattle.std.specs.FinMap.{nat_cmp-IsAntisymmetric}
 use Rattle.std.proofs.Common.{ap, ◌∙◌, sym, subst, arith}
 use Rattle.std.proofs.lemmas.Bool.{eqb-true}
 use Rattle.mm_num.specs.Power.{power}
 use Rattle.mm_poly.specs.declared.term.Term.{Term}
 use Rattle.mm_poly.specs.Mono.{mono_value}
 use Rattle.mm_poly.specs.Poly.{value}
-use Rattle.mm_poly.proofs.CaseLaws.{by_cases}
 use Rattle.mm_poly.proofs.RenamingLaws.{value_renamed}
 use Rattle.cert_kit.specs.declared.row.PRow.{PRow}
 use Rattle.goal_ast.specs.Truth.{Point}
 use Rattle.goal_ast.proofs.CountingLaws.{both_same}
-use Rattle.clause_form.specs.Naming.{with_element, in_order, mono_variables, poly_variables, row_variables, variables_of, place_of, renamed_row, named_rows}
+use Rattle.cert_kit.specs.Variables.{mono_variables, poly_variables, row_variables, variables_of, place_of}
+use Rattle.cert_kit.proofs.OrderedLaws.{all_in_order, any_in_order}
+use Rattle.clause_form.specs.Naming.{renamed_row, named_rows}
 use Rattle.cert_kit.specs.Order.{row_cmp}
 use Rattle.cert_kit.specs.Row.{compares_0, row_holds, all_hold}
 use Rattle.cert_kit.proofs.RowOrderLaws.{row_exact}
 use Rattle.clause_form.specs.Clauses.{seen_by}
 use Rattle.clause_form.proofs.BoolLaws.{or_assoc}
-
--- ---- elements in order
-
--- what holds of the list with an element, by how it compares to the first
-pub by_place : {A : Type 0} → (cmp : A → A → Ordering) (a b : A) (bs : List A) (P : List A → Type 0)
-    → (cmp a b ≡ Less → P (a ∷ b ∷ bs))
-    → (cmp a b ≡ Equal → P (b ∷ bs))
-    → (cmp a b ≡ Greater → P (b ∷ with_element cmp a bs))
-    → P (with_element cmp a (b ∷ bs))
-by_place cmp a b bs P l e g = by_cases (cmp a b) (λ o. rw (o, with_element) (l o)) (λ o. rw (o, with_element) (e o)) (λ o. rw (o, with_element) (g o))
-
-twice : (s t : Bool) → (s && t) ≡ (s && (s && t))
-twice true t = refl
-twice false t = refl
-
-pub either_twice : (s t : Bool) → (s || t) ≡ (s || (s || t))
-either_twice true t = refl
-either_twice false t = refl
-
-and_turned : (s t u : Bool) → (s && (t && u)) ≡ (t && (s && u))
-and_turned true true u = refl
-and_turned true false u = refl
-and_turned false true u = refl
-and_turned false false u = refl
-
-or_turned : (s t u : Bool) → (s || (t || u)) ≡ (t || (s || u))
-or_turned true true u = refl
-or_turned true false u = refl
-or_turned false true u = refl
-or_turned false false u = refl
-
-all_with : {A : Type 0} → (cmp : A → A → Ordering) (test : A → Bool) → IsAntisymmetric cmp → (a : A) (bs : List A)
-    → list_all test (with_element cmp a bs) ≡ (test a && list_all test bs)
-all_with cmp test exact a [] = refl
-all_with cmp test exact a (b ∷ bs) = by_place cmp a b bs (λ r. list_all test r ≡ (test a && (test b && list_all test bs)))
-    (λ o. refl)
-    (λ o. twice (test b) (list_all test bs) ∙ ap (λ c. test c && (test b && list_all test bs)) (sym (exact a b o)))
-    (λ o. ap (λ s. test b && s) (all_with cmp test exact a bs) ∙ and_turned (test b) (test a) (list_all test bs))
-
-any_with : {A : Type 0} → (cmp : A → A → Ordering) (test : A → Bool) → IsAntisymmetric cmp → (a : A) (bs : List A)
-    → list_any test (with_element cmp a bs) ≡ (test a || list_any test bs)
-any_with cmp test exact a [] = refl
-any_with cmp test exact a (b ∷ bs) = by_place cmp a b bs (λ r. list_any test r ≡ (test a || (test b || list_any test bs)))
-    (λ o. refl)
-    (λ o. either_twice (test b) (list_any test bs) ∙ ap (λ c. test c || (test b || list_any test bs)) (sym (exact a b o)))
-    (λ o. ap (λ s. test b || s) (any_with cmp test exact a bs) ∙ or_turned (test b) (test a) (list_any test bs))
-
--- a test of all elements, or of some, says the same of them in order
-pub all_in_order : {A : Type 0} → (cmp : A → A → Ordering) (test : A → Bool) → IsAntisymmetric cmp → (xs : List A) → list_all test (in_order cmp xs) ≡ list_all test xs
-all_in_order cmp test exact [] = refl
-all_in_order cmp test exact (a ∷ rest) = all_with cmp test exact a (in_order cmp rest) ∙ ap (λ s. test a && s) (all_in_order cmp test exact rest)
-
-pub any_in_order : {A : Type 0} → (cmp : A → A → Ordering) (test : A → Bool) → IsAntisymmetric cmp → (xs : List A) → list_any test (in_order cmp xs) ≡ list_any test xs
-any_in_order cmp test exact [] = refl
-any_in_order cmp test exact (a ∷ rest) = any_with cmp test exact a (in_order cmp rest) ∙ ap (λ s. test a || s) (any_in_order cmp test exact rest)
 
 -- ---- variables that occur
 

@@ -27,11 +27,12 @@ use Rattle.cert_kit.specs.Order.{row_cmp}
 use Rattle.cert_kit.proofs.RowOrderLaws.{row_exact}
 use Rattle.zify.specs.declared.goal.ZGoal.{ZGoal}
 use Rattle.clause_form.specs.declared.named.Named.{Named}
-use Rattle.clause_form.specs.Naming.{in_order, mono_variables, poly_variables, row_variables, variables_of, place_of, renamed_row, named_rows, numbers_from}
+use Rattle.cert_kit.specs.Variables.{in_order, mono_variables, poly_variables, row_variables, variables_of, place_of, numbers_from}
+use Rattle.clause_form.specs.Naming.{renamed_row, named_rows}
 use Rattle.clause_form.specs.Alternatives.{alternatives_of}
 use Rattle.clause_form.specs.Clauses.{named, clauses_of, IsNumbered}
-use Rattle.clause_form.proofs.OrderedLaws.{in_order_rises, determined, all_with_element}
-use Rattle.clause_form.proofs.NamingLaws.{occurs, any_self, or_first, or_second, any_append, found, any_in_order}
+use Rattle.cert_kit.proofs.OrderedLaws.{in_order_rises, determined, all_with_element, any_in_order}
+use Rattle.clause_form.proofs.NamingLaws.{occurs, any_self, or_first, or_second, any_append, found}
 use Rattle.clause_form.proofs.RenumberingLaws.{place_within, occurs_there}
 use Rattle.clause_form.proofs.WellFormedRowLaws.{IsWell, IsWellRow, AreWellRows, AreWell, alternatives_well}
 

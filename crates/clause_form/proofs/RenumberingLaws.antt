@@ -17,11 +17,12 @@ use Rattle.mm_poly.specs.Poly.{HasPlaces, plus}
 use Rattle.mm_poly.specs.Renaming.{by_table, renamed_mono, renamed_terms}
 use Rattle.cert_kit.specs.declared.row.PRow.{PRow}
 use Rattle.cert_kit.specs.Order.{row_cmp}
-use Rattle.clause_form.specs.Naming.{in_order, mono_variables, poly_variables, row_variables, variables_of, place_of, renamed_row}
+use Rattle.cert_kit.specs.Variables.{in_order, mono_variables, poly_variables, row_variables, variables_of, place_of}
+use Rattle.clause_form.specs.Naming.{renamed_row}
 use Rattle.clause_form.specs.Clauses.{named}
 use Rattle.clause_form.specs.machine.Numbering.{IsSetAt, Numbers}
-use Rattle.clause_form.proofs.OrderedLaws.{in_order_rises}
-use Rattle.clause_form.proofs.NamingLaws.{AgreeOn, occurs, any_self, or_first, or_second, in_first, in_second, agree_first, agree_second, found, any_in_order}
+use Rattle.cert_kit.proofs.OrderedLaws.{in_order_rises, any_in_order}
+use Rattle.clause_form.proofs.NamingLaws.{AgreeOn, occurs, any_self, or_first, or_second, in_first, in_second, agree_first, agree_second, found}
 
 -- ---- a renumbering counts for the variables alone
 

@@ -11,7 +11,8 @@ use Rattle.zify.specs.declared.goal.ZGoal.{ZGoal}
 use Rattle.zify.specs.Truth.{z_truth_of}
 use Rattle.clause_form.specs.declared.named.Named.{Named}
 use Rattle.clause_form.specs.Alternatives.{alternatives_of}
-use Rattle.clause_form.specs.Naming.{variables_of, place_of, named_rows}
+use Rattle.cert_kit.specs.Variables.{variables_of, place_of}
+use Rattle.clause_form.specs.Naming.{named_rows}
 use Rattle.clause_form.specs.Clauses.{named, clauses_of, GivesBack, Refutes}
 use Rattle.clause_form.proofs.AlternativeLaws.{some_holds, goal_tells}
 use Rattle.clause_form.proofs.NamingLaws.{or_second, rows_local, found, named_back}

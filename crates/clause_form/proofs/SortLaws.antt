@@ -1,4 +1,4 @@
--- Rows and variables that are sorted, each once.
+-- Rows that are sorted, each once.
 use Rattle.std.specs.Prelude.{◌≡◌, ℕ, nat_eq, Bool, List, [], ◌++◌, refl}
 use Rattle.std.specs.List.{dedup}
 use Rattle.std.specs.List.Sorted.{IsPermutation, IsSorted, IsSortedBy}
@@ -9,9 +9,9 @@ use Rattle.std.proofs.Common.{append-nil, arith, ap, ◌∙◌, sym}
 use Rattle.std.proofs.lemmas.List.Sorted.{ranks_by}
 use Rattle.cert_kit.specs.declared.row.PRow.{PRow}
 use Rattle.cert_kit.specs.Order.{row_cmp}
-use Rattle.clause_form.specs.Naming.{in_order, row_variables, variables_of}
+use Rattle.cert_kit.specs.Variables.{in_order}
 use Rattle.cert_kit.proofs.RowOrderLaws.{row_total, row_exact}
-use Rattle.clause_form.proofs.OrderedLaws.{sorted_once}
+use Rattle.cert_kit.proofs.OrderedLaws.{sorted_once}
 
 -- as a test
 abbrev pub row_below : PRow → PRow → Bool
@@ -26,18 +26,3 @@ same_row r s = eq_by_cmp row_cmp r s
 -- rows, sorted and without doubles
 pub rows_once : (rows sorted once : List PRow) → IsPermutation rows sorted → IsSortedBy row_below sorted → once ≡ dedup same_row sorted → once ≡ in_order row_cmp rows
 rows_once rows sorted once p s e = e ∙ sorted_once row_cmp row_total row_exact same_row (λ r s. refl) rows sorted p s
-
--- numbers too
-pub numbers_once : (xs sorted once : List ℕ) → IsPermutation xs sorted → IsSorted nat_cmp sorted → once ≡ dedup nat_eq sorted → once ≡ in_order nat_cmp xs
-numbers_once xs sorted once p s e = e ∙ sorted_once nat_cmp nat_cmp_total nat_cmp-IsAntisymmetric nat_eq same_number xs sorted p s
-  where
-    same_number : (x y : ℕ) → nat_eq x y ≡ eq_by_cmp nat_cmp x y
-    same_number x y = grind arith
-
--- the variables of rows, once no row is left
-pub variables_once : (rows rest : List PRow) (given sorted once : List ℕ) → rest ≡ [] → given ++ row_variables rest ≡ row_variables rows → IsPermutation given sorted → IsSorted nat_cmp sorted → once ≡ dedup nat_eq sorted
-    → once ≡ variables_of rows
-variables_once rows rest given sorted once n e p s d =
-    let r : row_variables rest ≡ [] = ap row_variables n in
-    let g : given ≡ row_variables rows = sym (append-nil given) ∙ ap (λ vs. given ++ vs) (sym r) ∙ e in
-    numbers_once given sorted once p s d ∙ ap (in_order nat_cmp) g

@@ -8,7 +8,8 @@ use Rattle.zify.specs.Truth.{HoldsTranslated, z_truth_of}
 use Rattle.goal_ast.specs.Truth.{Point}
 use Rattle.clause_form.specs.declared.named.Named.{Named}
 use Rattle.clause_form.specs.Alternatives.{alternatives_of}
-use Rattle.clause_form.specs.Naming.{variables_of, named_rows, numbers_from}
+use Rattle.cert_kit.specs.Variables.{variables_of, numbers_from}
+use Rattle.clause_form.specs.Naming.{named_rows}
 
 -- the clause of an alternative
 abbrev pub named : List PRow → Named

@@ -13,7 +13,7 @@ use Rattle.cert_kit.specs.declared.row.PRow.{PRow}
 use Rattle.goal_ast.specs.declared.goal.Goal.{Goal}
 use Rattle.zify.specs.Translation.{translated}
 use Rattle.clause_form.specs.declared.named.Named.{Named}
-use Rattle.clause_form.specs.Naming.{with_element, in_order, mono_variables, poly_variables, row_variables, variables_of, numbers_from}
+use Rattle.cert_kit.specs.Variables.{with_element, in_order, mono_variables, poly_variables, row_variables, variables_of, numbers_from}
 use Rattle.clause_form.specs.Clauses.{clauses_of}
 use Rattle.clause_form.specs.Clauses.{IsNumbered as HasNumbers}
 use Rattle.clause_form.proofs.WellFormedRowLaws.{AreWellRows}

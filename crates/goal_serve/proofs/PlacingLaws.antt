@@ -15,7 +15,7 @@ use Rattle.std.proofs.lemmas.Map.Keys.{below_from_sorted}
 use Rattle.mm_poly.specs.Point.{point_of as point_by}
 use Rattle.mm_poly.proofs.FactorLaws.{less_is}
 use Rattle.goal_ast.specs.Truth.{Point}
-use Rattle.clause_form.specs.Naming.{place_of}
+use Rattle.cert_kit.specs.Variables.{place_of}
 use Rattle.clause_form.specs.Clauses.{GivesBack}
 use Rattle.clause_form.proofs.NamingLaws.{occurs, any_self, or_second, found}
 use Rattle.clause_form.proofs.RenumberingLaws.{place_within}

@@ -23,7 +23,7 @@ use Rattle.goal_ast.proofs.TruthLaws.{truth_agrees}
 use Rattle.zify.specs.Translation.{translated}
 use Rattle.zify.proofs.TranslationLaws.{at_points}
 use Rattle.clause_form.specs.declared.named.Named.{Named}
-use Rattle.clause_form.specs.Naming.{place_of}
+use Rattle.cert_kit.specs.Variables.{place_of}
 use Rattle.clause_form.specs.Clauses.{clauses_of}
 use Rattle.clause_form.specs.Clauses.{Refutes as RefutesTranslated}
 use Rattle.clause_form.proofs.SolutionLaws.{refuted_back}

@@ -15,7 +15,7 @@ use Rattle.zify.specs.declared.goal.ZGoal.{ZGoal}
 use Rattle.zify.specs.Measure.{IsWithinLimits, IsTooHeavy, IsTooWide, IsTooSteep}
 use Rattle.zify.specs.Translation.{translated}
 use Rattle.clause_form.specs.declared.named.Named.{Named}
-use Rattle.clause_form.specs.Naming.{place_of}
+use Rattle.cert_kit.specs.Variables.{place_of}
 use Rattle.clause_form.specs.Clauses.{clauses_of, number_of}
 use Rattle.clause_engine.specs.declared.outcome.Why.{Why}
 use Rattle.clause_engine.specs.declared.outcome.Why.TheVariants as whys

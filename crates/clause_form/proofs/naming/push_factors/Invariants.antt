@@ -1,5 +1,5 @@
 use Rattle.std.proofs.Common.{◌≡◌, ◌++◌, drop}
-use Rattle.clause_form.specs.Naming.{mono_variables}
+use Rattle.cert_kit.specs.Variables.{mono_variables}
 use Rattle.clause_form.proofs.naming.push_factors.Given as goal
 
 -- what is out, and the factors that are left

@@ -1,5 +1,5 @@
 use Rattle.std.proofs.Common.{◌≡◌, ◌++◌, drop}
-use Rattle.clause_form.specs.Naming.{poly_variables}
+use Rattle.cert_kit.specs.Variables.{poly_variables}
 use Rattle.clause_form.proofs.naming.push_variables.Given as goal
 
 -- what is out, and the terms that are left

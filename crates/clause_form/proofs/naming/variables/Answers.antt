@@ -2,7 +2,7 @@ use Rattle.std.proofs.Common.{drop, ap, arith}
 use Rattle.std.proofs.lemmas.List.{drop_all}
 use Rattle.std.proofs.lemmas.List.Filters.{dedup_is}
 use Rattle.clause_form.specs.machine.Walk.{lent}
-use Rattle.clause_form.proofs.SortLaws.{variables_once}
+use Rattle.cert_kit.proofs.OrderedLaws.{variables_once}
 use Rattle.clause_form.proofs.naming.variables.Goals as goal
 
 pub returns : goal.returns

@@ -1,5 +1,5 @@
 use Rattle.std.proofs.Common.{◌≡◌, ◌++◌, drop}
-use Rattle.clause_form.specs.Naming.{row_variables}
+use Rattle.cert_kit.specs.Variables.{row_variables}
 use Rattle.clause_form.specs.machine.Walk.{lent}
 use Rattle.clause_form.proofs.naming.variables.Given as goal
 

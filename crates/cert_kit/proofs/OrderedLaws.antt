@@ -1,20 +1,80 @@
 -- A list in order is determined by its elements, so a sort that drops doubles puts a list in order.
-use Rattle.std.specs.Prelude.{◌≡◌, List, [], ◌∷◌, Bool, true, false, ◌&&◌, ◌||◌, refl}
-use Rattle.std.specs.List.{list_any, AllByRecursion, dedup, dedup_from}
+use Rattle.std.specs.Prelude.{◌≡◌, ℕ, nat_eq, List, [], ◌∷◌, ◌++◌, Bool, true, false, ◌&&◌, ◌||◌, refl}
+use Rattle.std.specs.List.{list_any, list_all, AllByRecursion, dedup, dedup_from}
 use Rattle.std.specs.List.Sorted.{IsPermutation, IsSorted, IsStrictlySortedBy}
-use Rattle.std.specs.Ordering.{is_eq, is_lt, eq_by_cmp, ordering_reverse}
+use Rattle.std.specs.Ordering.{nat_cmp, is_eq, is_lt, eq_by_cmp, ordering_reverse}
 use Rattle.std.specs.declared.cmp.Ordering.{Ordering}
 use Rattle.std.specs.declared.cmp.Ordering.TheVariants.{Less, Equal, Greater}
-use Rattle.std.specs.Cmp.{IsTotalOrder, tied_itself}
-use Rattle.std.specs.FinMap.{IsAntisymmetric}
-use Rattle.std.proofs.Common.{ap, ◌∙◌, sym}
+use Rattle.std.specs.Cmp.{IsTotalOrder, nat_cmp_total, tied_itself}
+use Rattle.std.specs.FinMap.{IsAntisymmetric, nat_cmp-IsAntisymmetric}
+use Rattle.std.proofs.Common.{ap, ◌∙◌, sym, append-nil, arith}
 use Rattle.std.proofs.lemmas.List.Kept.{IsStrictlySortedBy-dedup}
 use Rattle.std.proofs.lemmas.List.Sorted.{list_any-IsPermutation}
-use Rattle.goal_ast.proofs.CountingLaws.{both_same}
 use Rattle.mm_poly.proofs.CaseLaws.{by_cases, by_if}
-use Rattle.clause_form.specs.Naming.{with_element, in_order}
-use Rattle.clause_form.proofs.BoolLaws.{and_true}
-use Rattle.clause_form.proofs.NamingLaws.{by_place, either_twice, any_in_order}
+use Rattle.cert_kit.specs.declared.row.PRow.{PRow}
+use Rattle.cert_kit.specs.Variables.{with_element, in_order, row_variables, variables_of}
+
+both_same : {A B C : Type 0} → (f : A → B → C) (a c : A) (b d : B) → a ≡ c → b ≡ d → f a b ≡ f c d
+both_same f a c b d e g = ap (λ z. f z b) e ∙ ap (λ z. f c z) g
+
+and_true : (a : Bool) → (a && true) ≡ a
+and_true true = refl
+and_true false = refl
+
+-- ---- elements in order
+
+-- what holds of the list with an element, by how it compares to the first
+pub by_place : {A : Type 0} → (cmp : A → A → Ordering) (a b : A) (bs : List A) (P : List A → Type 0)
+    → (cmp a b ≡ Less → P (a ∷ b ∷ bs))
+    → (cmp a b ≡ Equal → P (b ∷ bs))
+    → (cmp a b ≡ Greater → P (b ∷ with_element cmp a bs))
+    → P (with_element cmp a (b ∷ bs))
+by_place cmp a b bs P l e g = by_cases (cmp a b) (λ o. rw (o, with_element) (l o)) (λ o. rw (o, with_element) (e o)) (λ o. rw (o, with_element) (g o))
+
+twice : (s t : Bool) → (s && t) ≡ (s && (s && t))
+twice true t = refl
+twice false t = refl
+
+pub either_twice : (s t : Bool) → (s || t) ≡ (s || (s || t))
+either_twice true t = refl
+either_twice false t = refl
+
+and_turned : (s t u : Bool) → (s && (t && u)) ≡ (t && (s && u))
+and_turned true true u = refl
+and_turned true false u = refl
+and_turned false true u = refl
+and_turned false false u = refl
+
+or_turned : (s t u : Bool) → (s || (t || u)) ≡ (t || (s || u))
+or_turned true true u = refl
+or_turned true false u = refl
+or_turned false true u = refl
+or_turned false false u = refl
+
+all_with : {A : Type 0} → (cmp : A → A → Ordering) (test : A → Bool) → IsAntisymmetric cmp → (a : A) (bs : List A)
+    → list_all test (with_element cmp a bs) ≡ (test a && list_all test bs)
+all_with cmp test exact a [] = refl
+all_with cmp test exact a (b ∷ bs) = by_place cmp a b bs (λ r. list_all test r ≡ (test a && (test b && list_all test bs)))
+    (λ o. refl)
+    (λ o. twice (test b) (list_all test bs) ∙ ap (λ c. test c && (test b && list_all test bs)) (sym (exact a b o)))
+    (λ o. ap (λ s. test b && s) (all_with cmp test exact a bs) ∙ and_turned (test b) (test a) (list_all test bs))
+
+any_with : {A : Type 0} → (cmp : A → A → Ordering) (test : A → Bool) → IsAntisymmetric cmp → (a : A) (bs : List A)
+    → list_any test (with_element cmp a bs) ≡ (test a || list_any test bs)
+any_with cmp test exact a [] = refl
+any_with cmp test exact a (b ∷ bs) = by_place cmp a b bs (λ r. list_any test r ≡ (test a || (test b || list_any test bs)))
+    (λ o. refl)
+    (λ o. either_twice (test b) (list_any test bs) ∙ ap (λ c. test c || (test b || list_any test bs)) (sym (exact a b o)))
+    (λ o. ap (λ s. test b || s) (any_with cmp test exact a bs) ∙ or_turned (test b) (test a) (list_any test bs))
+
+-- a test of all elements, or of some, says the same of them in order
+pub all_in_order : {A : Type 0} → (cmp : A → A → Ordering) (test : A → Bool) → IsAntisymmetric cmp → (xs : List A) → list_all test (in_order cmp xs) ≡ list_all test xs
+all_in_order cmp test exact [] = refl
+all_in_order cmp test exact (a ∷ rest) = all_with cmp test exact a (in_order cmp rest) ∙ ap (λ s. test a && s) (all_in_order cmp test exact rest)
+
+pub any_in_order : {A : Type 0} → (cmp : A → A → Ordering) (test : A → Bool) → IsAntisymmetric cmp → (xs : List A) → list_any test (in_order cmp xs) ≡ list_any test xs
+any_in_order cmp test exact [] = refl
+any_in_order cmp test exact (a ∷ rest) = any_with cmp test exact a (in_order cmp rest) ∙ ap (λ s. test a || s) (any_in_order cmp test exact rest)
 
 -- ---- a list in order rises
 
@@ -129,3 +189,18 @@ sorted_once cmp total exact same ties xs ys p s = determined cmp total exact (de
     any_dedup same (λ x y e. exact x y (is_equal (cmp x y) (sym (ties x y) ∙ e))) test ys
     ∙ sym (list_any-IsPermutation test xs ys p)
     ∙ sym (any_in_order cmp test exact xs))
+
+-- numbers too
+pub numbers_once : (xs sorted once : List ℕ) → IsPermutation xs sorted → IsSorted nat_cmp sorted → once ≡ dedup nat_eq sorted → once ≡ in_order nat_cmp xs
+numbers_once xs sorted once p s e = e ∙ sorted_once nat_cmp nat_cmp_total nat_cmp-IsAntisymmetric nat_eq same_number xs sorted p s
+  where
+    same_number : (x y : ℕ) → nat_eq x y ≡ eq_by_cmp nat_cmp x y
+    same_number x y = grind arith
+
+-- the variables of rows, once no row is left
+pub variables_once : (rows rest : List PRow) (given sorted once : List ℕ) → rest ≡ [] → given ++ row_variables rest ≡ row_variables rows → IsPermutation given sorted → IsSorted nat_cmp sorted → once ≡ dedup nat_eq sorted
+    → once ≡ variables_of rows
+variables_once rows rest given sorted once n e p s d =
+    let r : row_variables rest ≡ [] = ap row_variables n in
+    let g : given ≡ row_variables rows = sym (append-nil given) ∙ ap (λ vs. given ++ vs) (sym r) ∙ e in
+    numbers_once given sorted once p s d ∙ ap (in_order nat_cmp) g
