@@ -4,3 +4,6 @@ pub mod RowsLaws
 pub mod MemberLaws
 pub mod OppositeLaws
 pub mod BelowLaws
+pub mod AlikeLaws
+pub mod UseLaws
+pub mod LetGoLaws

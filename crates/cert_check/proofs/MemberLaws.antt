@@ -30,7 +30,7 @@ value_at_most r v i e h = let b = size_bound ((r.high -ℤ r.low) +ℤ pos 1) i 
 pub value_at_least : (r : Range) (v : ℤ) (i : ℕ) → v ≡ r.low +ℤ pos i → r.low ≤ℤ v
 value_at_least r v i e = omega (arith, ints)
 
-member_front : (cs : List Cert) (i : ℕ) (c : Cert) → i < length cs → c ≡ get_or cs i c → drop i cs ≡ c ∷ drop (i + 1) cs
+pub member_front : (cs : List Cert) (i : ℕ) (c : Cert) → i < length cs → c ≡ get_or cs i c → drop i cs ≡ c ∷ drop (i + 1) cs
 member_front cs i c h is = rw add-one (drop-cons cs i c h ∙ ap (λ (d : Cert). d ∷ drop (suc i) cs) (sym is))
 
 front_fault : (r : Range) (v : ℤ) (cs : List Cert) (i : ℕ) (rows given : List PRow) (c : Cert) → Counting r v cs i rows given → i < length cs → c ≡ get_or cs i c

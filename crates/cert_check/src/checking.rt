@@ -21,6 +21,10 @@ pub enum Verdict {
     Size,
 }
 
+// To find the last uses of rows, each row number that stands in a certificate is looked at once for each certificate
+// round it that lets rows go. So those that are nested deeper than this let none go.
+const LEVELS: u32 = 16;
+
 /// What the rules say of a certificate over a clause.
 pub fn check(alloc: Global, clause: &Clause, cert: &Cert) -> Result<Verdict, AllocError>
     ensures exact { IfOk result (λ verdict. verdict ≡ verdict_of (first_fault cert.now clause.now.rows)) }
@@ -48,7 +52,7 @@ fn fault_of(alloc: Global, given: &[PRow], cert: &Cert) -> Result<Option<Fault>,
     ensures { IfOk result (λ fault. fault ≡ first_fault cert.now given.now) }
 {
     let mut rows = Rows::new(alloc, given);
-    match check_cert(alloc, &mut rows, cert) {
+    match check_cert(alloc, &mut rows, LEVELS, cert) {
         Ok(()) => Ok(None),
         Err(CheckFail::Wrong(fault)) => Ok(Some(fault)),
         Err(CheckFail::NoMemory) => Err(AllocError),

@@ -14,21 +14,33 @@ use sqlite_items::Boxed;
 use std::alloc::Global;
 
 /// Returns where the certificate has no fault over the rows, and fails with its first one. The rows stay as they
-/// were where it returns.
+/// were where it returns. Rows are let go while there are levels left: a certificate of two steps or more takes one.
 #[cycle(check)]
-pub fn check_cert(alloc: Global, rows: &mut Rows<'_>, cert: &Cert) -> Result<(), CheckFail>
+pub fn check_cert(
+    alloc: Global,
+    rows: &mut Rows<'_>,
+    levels: u32,
+    cert: &Cert,
+) -> Result<(), CheckFail>
     ensures finds { Finds result (first_fault cert.now rows.old) }
     ensures rows { OnOk result (rows.new ≡ rows.old) }
 {
     let before = rows.len();
-    push_steps(alloc, rows, cert.steps.as_slice())?;
-    check_close(alloc, rows, &cert.close)?;
+    let steps = cert.steps.as_slice();
+    push_steps(alloc, rows, levels, steps, &cert.close)?;
+    let levels = levels.saturating_sub((steps.len() > 1) as u32);
+    check_close(alloc, rows, levels, &cert.close)?;
     rows.truncate(before);
     Ok(())
 }
 
 #[cycle(check)]
-fn check_close(alloc: Global, rows: &mut Rows<'_>, close: &Close) -> Result<(), CheckFail>
+fn check_close(
+    alloc: Global,
+    rows: &mut Rows<'_>,
+    levels: u32,
+    close: &Close,
+) -> Result<(), CheckFail>
     ensures finds { Finds result (close_fault close.now rows.old) }
     ensures rows { OnOk result (rows.new ≡ rows.old) }
 {
@@ -38,17 +50,17 @@ fn check_close(alloc: Global, rows: &mut Rows<'_>, close: &Close) -> Result<(), 
             let before = rows.len();
             test_split(poly)?;
             push_upper_side(alloc, rows, poly)?;
-            check_cert(alloc, rows, first.get())?;
+            check_cert(alloc, rows, levels, first.get())?;
             rows.truncate(before);
             push_lower_side(alloc, rows, poly)?;
-            check_cert(alloc, rows, second.get())?;
+            check_cert(alloc, rows, levels, second.get())?;
             rows.truncate(before);
             Ok(())
         }
         Close::Enum(ends, members) => {
             let ends = ends.get();
             let interval = interval_of(alloc, rows, &ends.lower, &ends.upper)?;
-            check_members(alloc, rows, interval.get(), members.as_slice())
+            check_members(alloc, rows, levels, interval.get(), members.as_slice())
         }
     }
 }
@@ -68,6 +80,7 @@ fn check_done(rows: &Rows<'_>) -> Result<(), CheckFail>
 fn check_members(
     alloc: Global,
     rows: &mut Rows<'_>,
+    levels: u32,
     interval: &Interval,
     members: &[Cert],
 ) -> Result<(), CheckFail>
@@ -81,7 +94,7 @@ fn check_members(
     let mut value = interval.low();
     for member in members {
         interval.push_value(alloc, rows, value)?;
-        check_cert(alloc, rows, member)?;
+        check_cert(alloc, rows, levels, member)?;
         rows.truncate(before);
         value += 1;
     }

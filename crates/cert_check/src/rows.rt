@@ -1,7 +1,9 @@
 ghost use Rattle.std.specs.Prelude.{◌≡◌, ◌-◌, [], ◌∷◌, ◌++◌, length, take, slice_get, OnOk, OnErr};
 ghost use Rattle.std.specs.Option.{option_copied};
+ghost use Rattle.cert_check.specs.Uses.{SameBut};
 
 use cert_kit::PRow;
+use mm_poly::Poly;
 use std::alloc::{AllocError, Global};
 use std::marker::Model;
 
@@ -77,6 +79,18 @@ impl<'a> Rows<'a> {
         ensures err { OnErr result (self.new ≡ self.old) }
     {
         self.more.push(row)?;
+        Ok(())
+    }
+
+    /// Lets go of the polynomial of a row that isn't one of the given ones. Its place stays.
+    pub fn let_go(&mut self, alloc: Global, n: usize) -> Result<(), AllocError>
+        ensures { OnOk result (SameBut n self.old self.new) }
+    {
+        let given = self.given.len();
+        if n < given || n - given >= self.more.len() {
+            return Ok(());
+        }
+        self.more[n - given].poly = Poly::constant(alloc, 0)?;
         Ok(())
     }
 }
