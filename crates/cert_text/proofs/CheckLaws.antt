@@ -84,7 +84,7 @@ check_then rows c rest is =
     let read : rows_at (2 ^ 32 - 1) (check_text rows c ++ rest) ≡ (rows, cert_line c ++ rest) = ap (rows_at (2 ^ 32 - 1)) text ∙ rows_then rows (cert_line c ++ rest) is.all_rows (inr (no_row c rest)) in
     ap (last_at (check_text rows c ++ rest)) read ∙ rw (cert_line_again c rest is.certificate, last_at) refl
 
-check_again : (rows : List PRow) (c : Cert) → IsCheck rows c → check_at (check_text rows c) ≡ Ok (rows, c)
+pub check_again : (rows : List PRow) (c : Cert) → IsCheck rows c → check_at (check_text rows c) ≡ Ok (rows, c)
 check_again rows c is =
     let none = append-nil (check_text rows c) in
     ap check_at (sym none) ∙ check_then rows c [] is

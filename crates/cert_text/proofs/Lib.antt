@@ -11,3 +11,6 @@ pub mod CheckLaws
 pub mod CertSteps
 pub mod PrintSteps
 pub mod LoopSteps
+pub mod LineLaws
+pub mod GrammarLaws
+pub mod FoundLaws

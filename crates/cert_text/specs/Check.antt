@@ -59,6 +59,21 @@ is_close_within = fold-Close Bool Bool close_level_within cert_level_within
 abbrev pub is_cert_within : Cert → Bool
 is_cert_within = fold-Cert Bool Bool close_level_within cert_level_within
 
+abbrev pub close_level_few : Close-F Bool Bool → Bool
+close_level_few Close-F.Done = true
+close_level_few (Close-F.Split p c d) = c && d
+close_level_few (Close-F.Enum b cs) = nat_lt (length cs) (2 ^ 32) && all_in_range cs
+
+abbrev pub cert_level_few : Cert-F Bool Bool → Bool
+cert_level_few c = c.close
+
+abbrev pub close_has_few_members : Close → Bool
+close_has_few_members = fold-Close Bool Bool close_level_few cert_level_few
+
+-- whether each enumeration of a certificate has fewer than 2^32 members
+abbrev pub has_few_members : Cert → Bool
+has_few_members = fold-Cert Bool Bool close_level_few cert_level_few
+
 -- a certificate within the limits: its constants are at least 1 and small
 pub record IsCert (c : Cert) : Type 0 where
   pub depth : cert_depth c ≤ 4096

@@ -2,7 +2,7 @@
 --
 -- A line ends with its line feed. The line of a row fits before the certificate's, while there are fewer than
 -- 2^32 - 1 rows before it; one line of a certificate fits, and after it none.
-use Rattle.std.specs.Prelude.{◌≡◌, ◌≢◌, ℕ, ◌-◌, ◌^◌, List, [], ◌++◌, length, ◌⊎◌}
+use Rattle.std.specs.Prelude.{◌≡◌, ◌≢◌, ℕ, ◌-◌, ◌^◌, List, [], ◌++◌, length, drop, Option, Some, None, ◌⊎◌}
 use Rattle.std.specs.List.{flat_map}
 use Rattle.cert_kit.specs.declared.row.PRow.{PRow}
 use Rattle.cert_kit.specs.declared.cert.Cert.{Cert}
@@ -22,6 +22,16 @@ BeginsRow bytes = (r : PRow) × (rest : List ℕ) × IsRow r × (bytes ≡ row_l
 -- the bytes begin with the line of a certificate
 abbrev pub BeginsCert : List ℕ → Type 0
 BeginsCert bytes = (c : Cert) × (rest : List ℕ) × IsCert c × (bytes ≡ cert_line c ++ rest)
+
+-- the line of a row at the front of the bytes and its length, or none where no such line stands there
+abbrev pub FindsRow : List ℕ → Option (PRow × ℕ) → Type 0
+FindsRow bytes None = BeginsRow bytes → ⊥
+FindsRow bytes (Some x) = IsRow x.0 × (bytes ≡ row_line x.0 ++ drop x.1 bytes) × (x.1 ≡ length (row_line x.0))
+
+-- the line of a certificate at the front of the bytes and its length, or none where no such line stands there
+abbrev pub FindsCert : List ℕ → Option (Cert × ℕ) → Type 0
+FindsCert bytes None = BeginsCert bytes → ⊥
+FindsCert bytes (Some x) = IsCert x.0 × (bytes ≡ cert_line x.0 ++ drop x.1 bytes) × (x.1 ≡ length (cert_line x.0))
 
 -- after lines of rows neither a row's line fits nor a certificate's; where no bytes are left, it's their length
 pub record LinesEnd (bytes : List ℕ) (at : ℕ) : Type 0 where

@@ -1,5 +1,5 @@
 -- The text of rows and certificates: the one spelling of each.
-use Rattle.std.specs.Prelude.{ℕ, ℤ, pos, negsuc, unsigned_abs, List, [], ◌∷◌, ◌++◌, ◌==◌, if◌then◌else◌, codes, decimal}
+use Rattle.std.specs.Prelude.{◌≡◌, ℕ, ℤ, pos, negsuc, unsigned_abs, List, [], ◌∷◌, ◌++◌, Bool, false, ◌==◌, ◌||◌, if◌then◌else◌, codes, decimal}
 use Rattle.std.specs.List.{flat_map}
 use Rattle.mm_poly.specs.declared.term.Term.{Term}
 use Rattle.cert_kit.specs.declared.row.Op.{Op}
@@ -107,3 +107,14 @@ cert_line c = codes "cert " ++ (cert_text c ++ 10 ∷ [])
 -- rows, each on a line, and a certificate on the last line
 abbrev pub check_text : List PRow → Cert → List ℕ
 check_text rows c = flat_map row_line rows ++ cert_line c
+
+-- whether a line feed stands among the bytes
+abbrev pub has_line_feed : List ℕ → Bool
+has_line_feed [] = false
+has_line_feed (b ∷ bytes) = b == 10 || has_line_feed bytes
+
+-- bytes that have one line feed, which is the last of them
+pub record IsLine (bytes : List ℕ) : Type 0 where
+  pub text : List ℕ
+  pub ends : bytes ≡ text ++ 10 ∷ []
+  pub one : has_line_feed text ≡ false

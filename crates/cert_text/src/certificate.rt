@@ -1,14 +1,15 @@
 //! Certificates. They are boxed, and what a level needs beside its parts stands in functions of their own, so that a
 //! level takes little stack.
 
-ghost use Rattle.std.specs.Prelude.{◌≡◌, ℕ, ◌++◌, ◌∷◌, [], OnOk};
+ghost use Rattle.std.specs.Prelude.{◌≡◌, ℕ, ◌++◌, ◌∷◌, [], IfOk, OnOk};
+ghost use Rattle.cert_text.specs.Place.{FindsCert};
 ghost use Rattle.cert_text.specs.Reading.{Gives, step_word_at, step_at, steps_at, done_at, split_end_at, split_at, members_at, enum_end_at, enum_at, with_steps, close_at, cert_at, cert_line_at, psatz_at};
 ghost use Rattle.std.specs.Option.{option_map};
 
 use crate::expression::{expression, pair};
 use crate::fail::TextFail;
 use crate::polynomial::polynomial;
-use crate::word::{skip, strip};
+use crate::word::{front_length, skip, strip};
 use cert_kit::{Cert, Close, Ends, Psatz, Step};
 use mm_poly::Poly;
 use sqlite_items::{Boxed, Items};
@@ -222,4 +223,17 @@ pub fn line(alloc: Global, bytes: &[u8]) -> Result<(Cert, &[u8]), TextFail>
     let (cert, rest) = certificate(alloc, DEEPEST, line)?;
     let rest = skip(rest, b"\n")?;
     Ok((cert.into_inner(), rest))
+}
+
+/// The line of a certificate at the front of the bytes, as the certificate and its length with the line feed: none where
+/// no such line stands there.
+#[tactic(auto, using(crate::proofs::FoundLaws::cert_missing, crate::proofs::CheckLaws::line_short))]
+pub fn read_cert_line(alloc: Global, bytes: &[u8]) -> Result<Option<(Cert, usize)>, AllocError>
+    ensures { IfOk result (FindsCert bytes.now) }
+{
+    match line(alloc, bytes) {
+        Ok((cert, rest)) => Ok(Some((cert, front_length(bytes, rest)))),
+        Err(TextFail::Bad) => Ok(None),
+        Err(TextFail::NoMemory) => Err(AllocError),
+    }
 }

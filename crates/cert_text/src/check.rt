@@ -11,6 +11,7 @@ ghost use Rattle.cert_text.specs.Whole.{whole_at, last_at, check_at, CheckGives}
 use crate::certificate::line;
 use crate::fail::{CheckText, TextFail};
 use crate::row::rows;
+use crate::word::front_length;
 use cert_kit::{Cert, Clause, PRow};
 use sqlite_items::Items;
 use std::alloc::Global;
@@ -84,5 +85,5 @@ fn place(bytes: &[u8], rest: &[u8]) -> u64
     requires { length rest.now ≤ length bytes.now }
     ensures { result ≡ length bytes.now - length rest.now }
 {
-    (bytes.len() - rest.len()) as u64
+    front_length(bytes, rest) as u64
 }

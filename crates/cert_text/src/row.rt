@@ -2,11 +2,12 @@
 
 ghost use Rattle.std.specs.Prelude.{◌≡◌, ℕ, IfOk};
 ghost use Rattle.std.specs.Option.{option_map};
+ghost use Rattle.cert_text.specs.Place.{FindsRow};
 ghost use Rattle.cert_text.specs.Reading.{Gives, op_at, row_at, rows_at};
 
 use crate::fail::TextFail;
 use crate::polynomial::polynomial;
-use crate::word::{skip, strip};
+use crate::word::{front_length, skip, strip};
 use cert_kit::{Op, PRow};
 use std::alloc::{AllocError, Global};
 
@@ -41,6 +42,18 @@ fn next_row(alloc: Global, bytes: &[u8]) -> Result<Option<(PRow, &[u8])>, AllocE
         Ok(next) => Ok(Some(next)),
         Err(TextFail::Bad) => Ok(None),
         Err(TextFail::NoMemory) => Err(AllocError),
+    }
+}
+
+/// The line of a row at the front of the bytes, as the row and its length with the line feed: none where no such line
+/// stands there.
+#[tactic(auto, using(crate::proofs::FoundLaws::row_short, crate::proofs::FoundLaws::row_missing))]
+pub fn read_row_line(alloc: Global, bytes: &[u8]) -> Result<Option<(PRow, usize)>, AllocError>
+    ensures { IfOk result (FindsRow bytes.now) }
+{
+    match next_row(alloc, bytes)? {
+        Some((row, rest)) => Ok(Some((row, front_length(bytes, rest)))),
+        None => Ok(None),
     }
 }
 

@@ -1,9 +1,12 @@
 //! Certificates printed.
 
-ghost use Rattle.std.specs.Prelude.{◌≡◌, ◌++◌, map, IfOk, OnOk, decimal, codes};
+ghost use Rattle.std.specs.Prelude.{◌≡◌, ◌≤◌, ◌++◌, map, true, IfOk, OnOk, decimal, codes};
 ghost use Rattle.std.specs.List.{flat_map};
+ghost use Rattle.cert_kit.specs.Depth.{cert_depth, cert_constants};
+ghost use Rattle.cert_text.specs.Check.{has_few_members, IsCert};
 ghost use Rattle.cert_text.specs.Text.{poly_text, signed_text, psatz_text, step_text, more_members, close_text, cert_text, cert_line};
 
+use crate::grammar::has_few_members;
 use crate::print::number::push_number;
 use crate::print::polynomial::{push_first_sign, push_polynomial};
 use cert_kit::{Cert, Close, Psatz, Step};
@@ -144,19 +147,25 @@ fn push_members(out: &mut Vec<u8>, members: &[Cert]) -> Result<(), AllocError>
     Ok(())
 }
 
-/// The text of a certificate.
+/// The text of a certificate. One as `Cert::make` gives it is of the grammar where each enumeration has fewer than 2^32
+/// members.
 pub fn print_cert(alloc: Global, cert: &Cert) -> Result<Vec<u8>, AllocError>
-    ensures { IfOk result (λ text. text.items ≡ cert_text cert.now) }
+    ensures text { IfOk result (λ text. text.items ≡ cert_text cert.now) }
+    ensures cert { cert_depth cert.now ≤ 4096 → cert_constants cert.now ≡ true → has_few_members cert.now ≡ true → IsCert cert.now }
 {
+    let _ = has_few_members(cert);
     let mut out = Vec::new(alloc);
     push_cert(&mut out, cert)?;
     Ok(out)
 }
 
-/// Appends the line of a certificate: `cert `, its text and a line feed. `Err` where there is no memory.
+/// Appends the line of a certificate: `cert `, its text and a line feed. `Err` where there is no memory. A certificate as
+/// `Cert::make` gives it is of the grammar where each enumeration has fewer than 2^32 members.
 pub fn push_cert_line(out: &mut Vec<u8>, cert: &Cert) -> Result<(), AllocError>
-    ensures { OnOk result (out.new.items ≡ out.old.items ++ cert_line cert.now) }
+    ensures text { OnOk result (out.new.items ≡ out.old.items ++ cert_line cert.now) }
+    ensures cert { cert_depth cert.now ≤ 4096 → cert_constants cert.now ≡ true → has_few_members cert.now ≡ true → IsCert cert.now }
 {
+    let _ = has_few_members(cert);
     out.extend_from_slice(b"cert ")?;
     push_cert(out, cert)?;
     out.extend_from_slice(b"\n")
