@@ -20,13 +20,13 @@ by_place : (m u : List (ℕ × ℕ)) (us : List (List (ℕ × ℕ))) (n : ℕ) (
     → (mono_cmp m u ≡ Greater → P (place_from us m (n + 1))) → P (place_from (u ∷ us) m n)
 by_place m u us n P l e g = by_cases (mono_cmp m u) (λ h. rw (h, place_from) (l h)) (λ h. rw (h, place_from) (e h)) (λ h. rw (h, place_from) (g h))
 
-put_less : (m u : List (ℕ × ℕ)) (us : List (List (ℕ × ℕ))) → mono_cmp m u ≡ Less → with_unknown m (u ∷ us) ≡ m ∷ u ∷ us
+pub put_less : (m u : List (ℕ × ℕ)) (us : List (List (ℕ × ℕ))) → mono_cmp m u ≡ Less → with_unknown m (u ∷ us) ≡ m ∷ u ∷ us
 put_less m u us h = rw (h, with_unknown) refl
 
-put_equal : (m u : List (ℕ × ℕ)) (us : List (List (ℕ × ℕ))) → mono_cmp m u ≡ Equal → with_unknown m (u ∷ us) ≡ u ∷ us
+pub put_equal : (m u : List (ℕ × ℕ)) (us : List (List (ℕ × ℕ))) → mono_cmp m u ≡ Equal → with_unknown m (u ∷ us) ≡ u ∷ us
 put_equal m u us h = rw (h, with_unknown) refl
 
-put_greater : (m u : List (ℕ × ℕ)) (us : List (List (ℕ × ℕ))) → mono_cmp m u ≡ Greater → with_unknown m (u ∷ us) ≡ u ∷ with_unknown m us
+pub put_greater : (m u : List (ℕ × ℕ)) (us : List (List (ℕ × ℕ))) → mono_cmp m u ≡ Greater → with_unknown m (u ∷ us) ≡ u ∷ with_unknown m us
 put_greater m u us h = rw (h, with_unknown) refl
 
 pub none_there : (us : List (List (ℕ × ℕ))) (m : List (ℕ × ℕ)) (n : ℕ) → place_from us m n ≡ None → with_unknown m us ≡ us

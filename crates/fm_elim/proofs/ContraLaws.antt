@@ -21,11 +21,12 @@ use Rattle.fm_elim.specs.Unknowns.{coeff_in, without, lowers, uppers}
 use Rattle.fm_elim.specs.Tidy.{End, Contra, Point, Grey, Over, tidied, kept_after, cuts}
 use Rattle.fm_elim.specs.Steps.{rule_of, poly_at, substituted, solve_has_room, solved, halved, combined, combined_all, pairs_have_room, eliminated}
 use Rattle.fm_elim.specs.Elimination.{Outcome, next, end_of, by_rule, outcome_in, enough_steps, elimination}
-use Rattle.fm_elim.proofs.ListLaws.{all_both, all_take, all_drop, all_at, all_map, all_with, all_filter}
+use Rattle.fm_elim.proofs.ListLaws.{all_take, all_drop, all_at, all_map, all_with, all_filter}
 use Rattle.fm_elim.proofs.TidyLaws.{MayEnd, Allows, tidied_allows, by_tidied}
 use Rattle.fm_elim.proofs.ShadowLaws.{times_at}
 use Rattle.fm_elim.proofs.RuleLaws.{Applies, IsEqualityAt, IsGivenAt, rule_applies}
 use Rattle.mm_num.proofs.Ring.{mul_zero}
+use Rattle.mm_num.proofs.ListLaws.{all_join}
 
 zero_value : (o : Op) (z : ℤ) → o ≡ Eq → Compares o z → z ≡ pos 0
 zero_value Ge z e c = absurd cc
@@ -63,7 +64,7 @@ combined_holds x u l h a b =
 combined_all_hold : (x : ℕ → ℤ) (u : List (ℕ × ℕ)) (ls hs : List PRow) → Solves x ls → Solves x hs → Solves x (combined_all u ls hs)
 combined_all_hold x u [] hs a b = tt
 combined_all_hold x u (l ∷ ls) hs a b =
-    all_both (Holds x) (map (combined u l) hs) (combined_all u ls hs)
+    all_join (Holds x) (map (combined u l) hs) (combined_all u ls hs)
     (all_map (Holds x) (combined u l) hs (all_with (Holds x) (λ h. Holds x (combined u l h)) hs (λ h k. combined_holds x u l h a.0 k) b))
     (combined_all_hold x u ls hs a.1 b)
 
@@ -80,7 +81,7 @@ solved_allows x rows k u g s = by_if (solve_has_room u (poly_at k rows) (remove 
     (λ b. all_map (Holds x) (substituted u (poly_at k rows)) (remove rows k)
     (all_with (Holds x) (λ r. Holds x (substituted u (poly_at k rows) r)) (remove rows k)
     (λ r h. substituted_holds x u (poly_at k rows) r (equality_value x rows k g.row g.here g.equality s) h)
-    (all_both (Holds x) (take k rows) (drop (suc k) rows) (all_take (Holds x) k rows s) (all_drop (Holds x) (suc k) rows s))))
+    (all_join (Holds x) (take k rows) (drop (suc k) rows) (all_take (Holds x) k rows s) (all_drop (Holds x) (suc k) rows s))))
     (λ b. tt)
 
 least_of_zero : (z : ℤ) → z ≡ pos 0 → pos 0 ≤ℤ z
@@ -91,12 +92,12 @@ halved_holds x rows k g s =
     let p = poly_at k rows in
     let e = equality_value x rows k g.row g.here g.equality s in
     let m : value x (scaled (negsuc 0) (poly_at k rows)) ≡ pos 0 = value_scaled x (negsuc 0) p ∙ ap (λ z. negsuc 0 *ℤ z) e ∙ mul_zero (negsuc 0) in
-    all_both (Holds x) (take k rows) _ (all_take (Holds x) k rows s)
+    all_join (Holds x) (take k rows) _ (all_take (Holds x) k rows s)
     (least_of_zero _ e, (least_of_zero _ m, all_drop (Holds x) (suc k) rows s))
 
 pub eliminated_allows : (x : ℕ → ℤ) (u : List (ℕ × ℕ)) (rows : List PRow) → Solves x rows → Allows x (eliminated u rows)
 eliminated_allows x u rows s = by_if (pairs_have_room u (lowers u rows) (uppers u rows)) (Ok (without u rows ++ combined_all u (lowers u rows) (uppers u rows))) (Err Over) (Allows x)
-    (λ b. all_both (Holds x) (without u rows) (combined_all u (lowers u rows) (uppers u rows))
+    (λ b. all_join (Holds x) (without u rows) (combined_all u (lowers u rows) (uppers u rows))
     (all_filter _ (Holds x) (Holds x) rows (λ r t h. h) s)
     (combined_all_hold x u (lowers u rows) (uppers u rows) (all_filter _ (Holds x) (Holds x) rows (λ r t h. h) s) (all_filter _ (Holds x) (Holds x) rows (λ r t h. h) s)))
     (λ b. tt)

@@ -6,25 +6,18 @@ use Rattle.cert_kit.specs.declared.row.PRow.{PRow}
 use Rattle.fm_elim.specs.declared.kept.Kept.{Kept}
 use Rattle.fm_elim.specs.Tidy.{End, Contra}
 use Rattle.fm_elim.specs.machine.Tidying.{Stands, Feeds, IsTidying, Goes, then_tidied}
-use Rattle.fm_elim.specs.machine.Sides.{sums_of}
-use Rattle.fm_elim.specs.Steps.{combined_all, pairs_have_room, substituted, solve_has_room, solved}
+use Rattle.fm_elim.specs.Steps.{substituted, solve_has_room, solved}
 use Rattle.fm_elim.proofs.GoingLaws.{begin, found as was_found, taken}
 
 -- with the first rows to come before, the second are to come now
 abbrev pub Toward : Kept → Kept → List PRow → List PRow → Type 0
 Toward before now all left = (answer : Result (List PRow) End) (rest : List PRow) → IsTidying answer before (all ++ rest) → IsTidying answer now (left ++ rest)
 
-pub toward_start : (k : Kept) (all : List PRow) → Toward k k all all
-toward_start k all answer rest t = t
-
 pub toward_step : (a b d : Kept) (all left : List PRow) (r : PRow) → Toward a b all (r ∷ left) → Feeds false b d (r ∷ []) → Toward a d all left
 toward_step a b d all left r w f answer rest t = taken answer b d r (left ++ rest) f (w answer rest t)
 
 pub toward_found : (a b d : Kept) (all left : List PRow) (r : PRow) → Toward a b all (r ∷ left) → Feeds true b d (r ∷ []) → Goes true a d all
 toward_found a b d all left r w f = λ answer rest t. was_found answer b d r (left ++ rest) f (w answer rest t)
-
-pub toward_end : (a b : Kept) (all : List PRow) → Toward a b all [] → Goes false a b all
-toward_end a b all w = λ answer rest t. w answer rest t
 
 -- a step on the rest that is still to come
 
@@ -50,10 +43,6 @@ pub toward_goes : (a b d : Kept) (all rows left : List PRow) (found : Bool) → 
 toward_goes a b d all rows left found w e g = λ answer rest t.
     goes_found answer b d found rows (left ++ rest) e g (subst (IsTidying answer b) (append_assoc rows left rest) (w answer rest t))
 
-pub toward_row : (a b d : Kept) (all left : List PRow) (r : PRow) (found : Bool) → Toward a b all (r ∷ left) → found ≡ true → Feeds found b d (r ∷ []) → Goes true a d all
-toward_row a b d all left r true w e f = toward_found a b d all left r w f
-toward_row a b d all left r false w e f = absurd cc
-
 pub toward_next : (a b d : Kept) (all left : List PRow) (r : PRow) (found : Bool) → Toward a b all (r ∷ left) → found ≡ false → Feeds found b d (r ∷ []) → Toward a d all left
 toward_next a b d all left r true w e f = absurd cc
 toward_next a b d all left r false w e f = toward_step a b d all left r w f
@@ -67,11 +56,6 @@ pub goes_two : (a b d : Kept) (before found : Bool) (r s : PRow) → before ≡ 
 goes_two a b d true found r s e f g = absurd cc
 goes_two a b d false true r s e f g = λ answer rest t. was_found answer b d s rest g (taken answer a b r (s ∷ rest) f t)
 goes_two a b d false false r s e f g = λ answer rest t. taken answer b d s rest g (taken answer a b r (s ∷ rest) f t)
-
--- the rows after a step by pairs
-pub sums_begin : (u : List (ℕ × ℕ)) (rows ls hs : List PRow) (kept : Kept) → pairs_have_room u ls hs ≡ true → Stands kept.is_over kept.rows.items []
-    → IsTidying (then_tidied (sums_of u rows ls hs)) kept (rows ++ combined_all u ls hs)
-sums_begin u rows ls hs kept e s = rw e (begin kept (rows ++ combined_all u ls hs) s)
 
 pub with_none : (answer : Result (List PRow) End) (a : Kept) (rows : List PRow) → IsTidying answer a rows → IsTidying answer a (rows ++ [])
 with_none answer a rows t = subst (IsTidying answer a) (sym (append-nil rows)) t

@@ -31,7 +31,7 @@ use Rattle.fm_elim.specs.Unknowns.{with_unknown, with_unknowns, unknowns, coeff_
 use Rattle.fm_elim.specs.Tidy.{End, Over, are_parallel, is_tighter, tighter, put, is_constant_row, kept_after, cuts, tidied}
 use Rattle.fm_elim.specs.Steps.{solvable_from, equality_from, is_exact, first_exact, first_of, exact_or, halve_or, solve_or, rule_of, poly_at, substituted, solve_has_room, solved, halved, combined, combined_all, pairs_have_room, eliminated}
 use Rattle.fm_elim.specs.Elimination.{Outcome, standing, removing, next, by_rule, outcome_in, enough_steps}
-use Rattle.fm_elim.proofs.ListLaws.{all_both, all_take, all_drop, all_at, all_map, all_filter, all_zip, all_with}
+use Rattle.fm_elim.proofs.ListLaws.{all_take, all_drop, all_at, all_map, all_filter, all_zip, all_with}
 use Rattle.fm_elim.proofs.TidyLaws.{IsPolyRow, AreTidy, all_kept, by_tidied, kept_tidy}
 use Rattle.fm_elim.proofs.RuleLaws.{IsUnknown, IsGivenAt, IsEqualityAt, Applies, by_unknown, unknowns_are, rule_applies}
 use Rattle.fm_elim.proofs.PolyRowLaws.{poly_at_poly, remove_all, poly_substituted, combined_polys, halved_polys}
@@ -40,6 +40,7 @@ use Rattle.fm_elim.proofs.PointLaws.{taken_out}
 use Rattle.fm_elim.proofs.PairLaws.{above_sign, below_sign, pair_cancels}
 use Rattle.fm_elim.proofs.SolveLaws.{Has, known_rows}
 use Rattle.fm_elim.proofs.NumberLaws.{Rise, rise_rows}
+use Rattle.mm_num.proofs.ListLaws.{all_join}
 
 -- what the unknowns of rows are
 
@@ -67,7 +68,7 @@ term_each : (P : List (ℕ × ℕ) → Type 0) (n : List (ℕ × ℕ)) (t : Term
 term_each P n t us true p f h = f h
 term_each P n t us false p f h = either_is P n t.mono us p f (has_either n t.mono us h)
 
-terms_each : (P : List (ℕ × ℕ) → Type 0) (n : List (ℕ × ℕ)) (ts : List Term) (us : List (List (ℕ × ℕ))) → EachMono P ts → (Has n us → P n) → Has n (with_unknowns ts us) → P n
+pub terms_each : (P : List (ℕ × ℕ) → Type 0) (n : List (ℕ × ℕ)) (ts : List Term) (us : List (List (ℕ × ℕ))) → EachMono P ts → (Has n us → P n) → Has n (with_unknowns ts us) → P n
 terms_each P n [] us a f h = f h
 terms_each P n (t ∷ ts) us a f h = term_each P n t (with_unknowns ts us) (is_constant t.mono) a.0 (λ k. terms_each P n ts us a.1 f k) h
 
@@ -75,16 +76,16 @@ unknowns_each : (P : List (ℕ × ℕ) → Type 0) (n : List (ℕ × ℕ)) (rows
 unknowns_each P n [] a h = absurd h
 unknowns_each P n (r ∷ rows) a h = terms_each P n r.poly (unknowns rows) a.0 (λ k. unknowns_each P n rows a.1 k) h
 
-has_all : (P : List (ℕ × ℕ) → Type 0) (n : List (ℕ × ℕ)) (us : List (List (ℕ × ℕ))) → AllByRecursion P us → Has n us → P n
+pub has_all : (P : List (ℕ × ℕ) → Type 0) (n : List (ℕ × ℕ)) (us : List (List (ℕ × ℕ))) → AllByRecursion P us → Has n us → P n
 has_all P n [] a h = absurd h
 has_all P n (u ∷ us) a (inl e) = subst P (sym e) a.0
 has_all P n (u ∷ us) a (inr h) = has_all P n us a.1 h
 
 -- constant, or among these
-abbrev Known : List (List (ℕ × ℕ)) → List (ℕ × ℕ) → Type 0
+abbrev pub Known : List (List (ℕ × ℕ)) → List (ℕ × ℕ) → Type 0
 Known us m = (m ≡ []) ⊎ Has m us
 
-known_unknown : (n : List (ℕ × ℕ)) (us : List (List (ℕ × ℕ))) → IsUnknown n → Known us n → Has n us
+pub known_unknown : (n : List (ℕ × ℕ)) (us : List (List (ℕ × ℕ))) → IsUnknown n → Known us n → Has n us
 known_unknown n us z (inl e) = absurd (differ n z e)
   where
     differ : (n : List (ℕ × ℕ)) → is_constant n ≡ false → n ≡ [] → ⊥
@@ -94,10 +95,10 @@ known_unknown n us z (inr h) = h
 
 -- fewer unknowns
 
-abbrev Within : List (List (ℕ × ℕ)) → List (List (ℕ × ℕ)) → Type 0
+abbrev pub Within : List (List (ℕ × ℕ)) → List (List (ℕ × ℕ)) → Type 0
 Within us vs = (n : List (ℕ × ℕ)) → Has n us → Has n vs
 
-less_than : (w : List (ℕ × ℕ)) (us : List (List (ℕ × ℕ))) → AllByRecursion (λ v. mono_cmp w v ≡ Less) us → (n : List (ℕ × ℕ)) → Has n us → mono_cmp w n ≡ Less
+pub less_than : (w : List (ℕ × ℕ)) (us : List (List (ℕ × ℕ))) → AllByRecursion (λ v. mono_cmp w v ≡ Less) us → (n : List (ℕ × ℕ)) → Has n us → mono_cmp w n ≡ Less
 less_than w us a n h = has_all (λ v. mono_cmp w v ≡ Less) n us a h
 
 not_first : (w v n : List (ℕ × ℕ)) (vs : List (List (ℕ × ℕ))) → mono_cmp w n ≡ Less → w ≡ v → Has n (v ∷ vs) → Has n vs
@@ -108,7 +109,7 @@ past_first : (w v n : List (ℕ × ℕ)) (vs : List (List (ℕ × ℕ))) → mon
 past_first w v n vs b l (inl f) = absurd (mono_not_self v (mono_through v w v b (subst (λ (k : List (ℕ × ℕ)). mono_cmp w k ≡ Less) f l)))
 past_first w v n vs b l (inr k) = k
 
-skip_same : (w v : List (ℕ × ℕ)) (us vs : List (List (ℕ × ℕ))) → w ≡ v → Rise (w ∷ us) → Within (w ∷ us) (v ∷ vs) → Within us vs
+pub skip_same : (w v : List (ℕ × ℕ)) (us vs : List (List (ℕ × ℕ))) → w ≡ v → Rise (w ∷ us) → Within (w ∷ us) (v ∷ vs) → Within us vs
 skip_same w v us vs e r s n h = not_first w v n vs (less_than w us r.0 n h) e (s n (inr h))
 
 skip_later : (w v : List (ℕ × ℕ)) (us vs : List (List (ℕ × ℕ))) → Has w vs → Rise (w ∷ us) → Rise (v ∷ vs) → Within (w ∷ us) (v ∷ vs) → Within (w ∷ us) vs
@@ -325,7 +326,7 @@ halved_less rows k a g =
     let good = known_rows rows in
     let P : PRow → Type 0 = (λ (r : PRow). EachMono (Known (unknowns rows)) r.poly) in
     let row : EachMono (Known (unknowns rows)) (poly_at k rows) = subst (EachMono (Known (unknowns rows))) (sym (poly_at_is rows k g.row g.here)) (all_at (λ (r : PRow). EachMono (Known (unknowns rows)) r.poly) rows k g.row g.here good) in
-    let each = all_both (λ (r : PRow). EachMono (Known us) r.poly) (take k rows) (at_least_0 p ∷ at_least_0 (scaled (negsuc 0) p) ∷ drop (suc k) rows)
+    let each = all_join (λ (r : PRow). EachMono (Known us) r.poly) (take k rows) (at_least_0 p ∷ at_least_0 (scaled (negsuc 0) p) ∷ drop (suc k) rows)
     (all_take (λ (r : PRow). EachMono (Known us) r.poly) k rows good) (row, (each_scaled (Known us) (negsuc 0) p row, all_drop (λ (r : PRow). EachMono (Known us) r.poly) (suc k) rows good)) in
     let u = no_more (unknowns (halved k rows)) us (rise_rows (halved k rows)) (rise_rows rows) (within_rows rows (halved k rows) each) in
     let s = split_equalities rows k g.row g.here in
@@ -365,7 +366,7 @@ IsHigh u us r = IsGood us r × (coeff_in u r ≡ neg_ℤ (pos (unsigned_abs (coe
 sums_other : (u : List (ℕ × ℕ)) (us : List (List (ℕ × ℕ))) (ls hs : List PRow) → AllByRecursion (IsLow u us) ls → AllByRecursion (IsHigh u us) hs → Each (Other u us) (combined_all u ls hs)
 sums_other u us [] hs a b = tt
 sums_other u us (l ∷ ls) hs a b =
-    all_both (λ (r : PRow). EachMono (Other u us) r.poly) (map (combined u l) hs) (combined_all u ls hs)
+    all_join (λ (r : PRow). EachMono (Other u us) r.poly) (map (combined u l) hs) (combined_all u ls hs)
     (all_map (λ (r : PRow). EachMono (Other u us) r.poly) (combined u l) hs
     (all_with (IsHigh u us) (λ (h : PRow). EachMono (Other u us) (combined u l h).poly) hs (λ h k. combined_other u us l h a.0.0.0 k.0.0 a.0.0.1 k.0.1 a.0.1 k.1) b))
     (sums_other u us ls hs a.1 b)
@@ -383,7 +384,7 @@ eliminated_less rows u a h =
     let f = filtered_equalities (λ (r : PRow). int_eq (coeff_in u r) (pos 0)) rows in
     let n = no_equalities_made u (lowers u rows) (uppers u rows) in
     removed_less u rows (without u rows ++ combined_all u (lowers u rows) (uppers u rows))
-    (all_both (λ (r : PRow). EachMono (Other u us) r.poly) (without u rows) (combined_all u (lowers u rows) (uppers u rows)) rest (sums_other u us (lowers u rows) (uppers u rows) low high)) h
+    (all_join (λ (r : PRow). EachMono (Other u us) r.poly) (without u rows) (combined_all u (lowers u rows) (uppers u rows)) rest (sums_other u us (lowers u rows) (uppers u rows) low high)) h
     (omega (arith, b, f, n))
 
 -- the unknown that a rule eliminates is one
@@ -444,7 +445,7 @@ eliminated_same : (go gone : List PRow → Outcome) (rows : List PRow) (u : List
 eliminated_same go gone rows u a h f =
     by_if (pairs_have_room u (lowers u rows) (uppers u rows)) (Ok (without u rows ++ combined_all u (lowers u rows) (uppers u rows))) (Err Over) (λ res. next go (res >>= tidied) ≡ next gone (res >>= tidied))
     (λ b. tidied_same go gone (left_of rows) (without u rows ++ combined_all u (lowers u rows) (uppers u rows))
-    (all_both IsPolyRow (without u rows) (combined_all u (lowers u rows) (uppers u rows)) (all_filter _ IsPolyRow IsPolyRow rows (λ r t h. h) a)
+    (all_join IsPolyRow (without u rows) (combined_all u (lowers u rows) (uppers u rows)) (all_filter _ IsPolyRow IsPolyRow rows (λ r t h. h) a)
     (combined_polys u (lowers u rows) (uppers u rows) (all_filter _ IsPolyRow IsPolyRow rows (λ r t h. h) a) (all_filter _ IsPolyRow IsPolyRow rows (λ r t h. h) a)))
     (eliminated_less rows u a h) f)
     (λ b. refl)

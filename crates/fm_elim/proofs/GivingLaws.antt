@@ -129,9 +129,3 @@ wild_already k removed g top limit i e =
   where
     not_below : (a b : ℕ) → nat_lt a b ≡ false → b ≤ a
     not_below a b e = grind arith
-
-pub tame_now : (removed : List Removal) (g : Given) (top limit : ℕ) → IsGiven removed g → nat_lt (top * (1 + g.greatest)) limit ≡ true → top * (1 + greatest_value removed) < limit
-tame_now removed g top limit i e = subst (λ n. top * (1 + n) < limit) i.most (below (top * (1 + g.greatest)) limit e)
-  where
-    below : (a b : ℕ) → nat_lt a b ≡ true → a < b
-    below a b e = grind arith

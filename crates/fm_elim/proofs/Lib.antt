@@ -25,4 +25,6 @@ pub mod SolveLaws
 pub mod PruningLaws
 pub mod NumberLaws
 pub mod FuelLaws
+pub mod StandingLaws
+pub mod ExactLaws
 pub mod MarkLaws

@@ -1,5 +1,5 @@
 -- How a log grows, and what stands in it.
-use Rattle.std.specs.Prelude.{◌≡◌, ℕ, zero, suc, ◌+◌, ◌^◌, ◌<◌, ◌≤◌, ◌≢◌, ◌*◌, ℤ, pos, negsuc, unsigned_abs, List, [], ◌∷◌, ◌++◌, length, take, drop, Bool, true, false, Option, Some, slice_get, int_lt, refl}
+use Rattle.std.specs.Prelude.{◌≡◌, ℕ, zero, suc, ◌+◌, ◌^◌, ◌<◌, ◌≤◌, ◌≢◌, ◌*◌, ℤ, pos, negsuc, unsigned_abs, List, [], ◌∷◌, ◌++◌, length, if◌then◌else◌, take, drop, Bool, true, false, Option, Some, slice_get, int_lt, refl}
 use Rattle.std.proofs.Common.{ap, sym, ◌∙◌, subst, arith, length-append}
 use Rattle.std.proofs.lemmas.List.{map-append, length-map}
 use Rattle.std.proofs.lemmas.Int.{to_z_pos}
@@ -14,17 +14,20 @@ use Rattle.mm_poly.specs.Poly.{Fits, norm, plus, scaled}
 use Rattle.cert_kit.specs.declared.row.Op.TheVariants.{Ge, Eq}
 use Rattle.cert_kit.specs.declared.row.PRow.{PRow}
 use Rattle.cert_kit.specs.declared.cert.Step.{Step}
+use Rattle.cert_kit.specs.declared.cert.Step.TheVariants.{Rat, Cut}
 use Rattle.cert_kit.specs.declared.cert.Cert.{Cert}
 use Rattle.cert_kit.specs.declared.cert.Close.TheVariants.{Done}
 use Rattle.cert_kit.specs.Row.{is_false}
 use Rattle.cert_kit.specs.Cut.{cut_of}
 use Rattle.cert_kit.specs.Acceptance.{with_row, step_row, rows_after, ends_false, IsGood}
 use Rattle.cert_kit.specs.Making.{Makes}
-use Rattle.cert_kit.proofs.MakerLaws.{makes_none, makes_cut, makes_both, ends_with, good_done}
+use Rattle.cert_kit.proofs.FormLaws.{hyp_means}
+use Rattle.cert_kit.proofs.MakerLaws.{makes_none, makes_rat, makes_cut, makes_both, ends_with, good_done}
 use Rattle.fm_elim.specs.declared.source.Source.{Source}
-use Rattle.fm_elim.specs.declared.source.Source.TheVariants.{Given, Pair, Sum}
+use Rattle.fm_elim.specs.declared.source.Combination.{Combination}
+use Rattle.fm_elim.specs.declared.source.Combination.TheVariants.{Given, Pair, Sum}
 use Rattle.fm_elim.specs.declared.source.Origin.{Origin}
-use Rattle.fm_elim.specs.declared.source.Origin.TheVariants.{Stands, Made}
+use Rattle.fm_elim.specs.declared.source.Origin.TheVariants.{Stands}
 use Rattle.fm_elim.specs.declared.log.Log.{Log}
 use Rattle.fm_elim.specs.declared.live.Live.{Live}
 use Rattle.fm_elim.specs.declared.sides.Side.{Side}
@@ -36,10 +39,11 @@ use Rattle.fm_elim.specs.Steps.{combined, pair_has_room, solve_has_room}
 use Rattle.fm_elim.specs.machine.Sides.{IsSide, AreParts, lives_of}
 use Rattle.fm_elim.specs.machine.Tidying.{rows_of}
 use Rattle.fm_elim.specs.machine.Logged.{LogsRan}
-use Rattle.fm_elim.specs.machine.Logging.{expression, step_of, steps_of, rows_made, all_rows, IsSized, AreSound, IsSound, Contradict, Grows, Derives, IsLive, IsLiveSide, IsLogged, Logs, IsNumbered, IsPushed, IsOrigin, CanKeep}
-use Rattle.fm_elim.proofs.ListLaws.{all_with, all_both, all_unmap, all_filter, all_take, all_drop}
+use Rattle.fm_elim.specs.machine.Logging.{expression, step_of, steps_of, made_row, rows_made, all_rows, HasSizes, AreSound, IsSound, Contradict, Grows, Derives, IsLive, IsLiveSide, IsLogged, Logs, IsNumbered, IsPushed, IsOrigin, CanKeep}
+use Rattle.fm_elim.proofs.ListLaws.{all_with, all_unmap, all_filter, all_take, all_drop}
 use Rattle.fm_elim.proofs.PartLaws.{IsAt, given_derives, pair_derives, sum_derives}
 use Rattle.fm_elim.proofs.ScaledLaws.{room_for}
+use Rattle.mm_num.proofs.ListLaws.{all_join}
 
 pub get_front : {A : Type 0} (xs ys : List A) (n : ℕ) (x : A) → slice_get xs n ≡ Some x → slice_get (xs ++ ys) n ≡ Some x
 get_front [] ys n x e = absurd cc
@@ -66,24 +70,31 @@ made_is given sources rows e = ap (λ (o : Option (List PRow)). option_map_or (�
 pub made_none : (given : List PRow) → AreSound given []
 made_none given = record { makes = makes_none given; sized = tt }
 
-pub record IsLonger (given : List PRow) (sources more : List Source) (r : PRow) : Type 0 where
-  pub rows : rows_made given more ≡ with_row (rows_made given sources) (cut_of r)
+pub record IsLonger (given : List PRow) (sources more : List Source) (s : Source) (r : PRow) : Type 0 where
+  pub rows : rows_made given more ≡ with_row (rows_made given sources) (made_row s r)
   pub sound : AreSound given more
 
+makes_step : (rows : List PRow) (s : Source) (r : PRow) → Derives rows s.combination r → Makes rows (step_of s ∷ []) (with_row rows (made_row s r))
+makes_step rows s r d = by_kind s.is_cut
+  where
+    by_kind : (b : Bool) → Makes rows ((if b then Cut (expression s.combination) else Rat (expression s.combination)) ∷ []) (with_row rows (if b then cut_of r else r))
+    by_kind true = makes_cut rows (expression s.combination) r d.means d.within
+    by_kind false = makes_rat rows (expression s.combination) r d.means d.within
+
 -- one more source
-pub longer : (given : List PRow) (sources more : List Source) (s : Source) (r : PRow) → AreSound given sources → Derives (rows_made given sources) s r
-    → more ≡ sources ++ s ∷ [] → IsLonger given sources more r
+pub longer : (given : List PRow) (sources more : List Source) (s : Source) (r : PRow) → AreSound given sources → Derives (rows_made given sources) s.combination r
+    → more ≡ sources ++ s ∷ [] → IsLonger given sources more s r
 longer given sources more s r m d e =
     let rows = rows_made given sources in
-    let all = makes_both given rows (with_row rows (cut_of r)) (steps_of sources) (step_of s ∷ []) m.makes (makes_cut rows (expression s) r d.means d.within) in
+    let all = makes_both given rows (with_row rows (made_row s r)) (steps_of sources) (step_of s ∷ []) m.makes (makes_step rows s r d) in
     let steps : steps_of more ≡ steps_of sources ++ step_of s ∷ [] = ap (λ (q : List Source). steps_of q) e ∙ map-append step_of sources (s ∷ []) in
-    let made = subst (λ (q : List Step). Makes given q (with_row rows (cut_of r))) (sym steps) all in
-    let same = made_is given more (with_row rows (cut_of r)) made.made in
+    let made = subst (λ (q : List Step). Makes given q (with_row rows (made_row s r))) (sym steps) all in
+    let same = made_is given more (with_row rows (made_row s r)) made.made in
     record {
       rows = same;
       sound = record {
         makes = subst (λ (q : List PRow). Makes given (steps_of more) q) (sym same) made;
-        sized = subst (AllByRecursion IsSized) (sym e) (all_both IsSized sources (s ∷ []) m.sized (d.sized, tt));
+        sized = subst (AllByRecursion HasSizes) (sym e) (all_join HasSizes sources (s ∷ []) m.sized (d.sized, tt));
       };
     }
 
@@ -95,13 +106,13 @@ grows_not log = record { given = refl; rows = λ n r h. h }
 pub grows_both : (a b d : Log) → Grows a b → Grows b d → Grows a d
 grows_both a b d g h = record { given = h.given ∙ g.given; rows = λ n r e. h.rows n r (g.rows n r e) }
 
-pub pushed : (before after : Log) (s : Source) (r : PRow) → IsSound before → Derives (all_rows before) s r → after.given.now ≡ before.given.now
-    → after.sources.items ≡ before.sources.items ++ s ∷ [] → IsPushed before after (cut_of r)
+pub pushed : (before after : Log) (s : Source) (r : PRow) → IsSound before → Derives (all_rows before) s.combination r → after.given.now ≡ before.given.now
+    → after.sources.items ≡ before.sources.items ++ s ∷ [] → IsPushed before after (made_row s r)
 pushed before after s r m d g e =
     let l = longer before.given.now before.sources.items after.sources.items s r m d e in
-    let rows : all_rows after ≡ with_row (all_rows before) (cut_of r) = ap (λ (q : List PRow). rows_made q after.sources.items) g ∙ l.rows in
+    let rows : all_rows after ≡ with_row (all_rows before) (made_row s r) = ap (λ (q : List PRow). rows_made q after.sources.items) g ∙ l.rows in
     record {
-      grows = record { given = g; rows = λ n q h. subst (λ (w : List PRow). slice_get w n ≡ Some q) (sym rows) (get_front (all_rows before) (cut_of r ∷ []) n q h) };
+      grows = record { given = g; rows = λ n q h. subst (λ (w : List PRow). slice_get w n ≡ Some q) (sym rows) (get_front (all_rows before) (made_row s r ∷ []) n q h) };
       sound = subst (λ (q : List PRow). AreSound q after.sources.items) (sym g) l.sound;
       rows = rows;
     }
@@ -114,11 +125,11 @@ last_there before r n rows m e f =
     subst (λ (w : List PRow). slice_get w n ≡ Some r) (sym e)
     (subst (λ k. slice_get (all_rows before ++ r ∷ []) k ≡ Some r) (count ∙ sym f) (get_last (all_rows before) r))
 
-pub numbered : (before after : Log) (s : Source) (r : PRow) (n : ℕ) → IsSound before → Derives (all_rows before) s r → after.given.now ≡ before.given.now
-    → after.sources.items ≡ before.sources.items ++ s ∷ [] → n ≡ length before.given.now + length before.sources.items → IsNumbered before after (cut_of r) n
+pub numbered : (before after : Log) (s : Source) (r : PRow) (n : ℕ) → IsSound before → Derives (all_rows before) s.combination r → after.given.now ≡ before.given.now
+    → after.sources.items ≡ before.sources.items ++ s ∷ [] → n ≡ length before.given.now + length before.sources.items → IsNumbered before after (made_row s r) n
 numbered before after s r n m d g e f =
     let p = pushed before after s r m d g e in
-    record { grows = p.grows; sound = p.sound; here = last_there before (cut_of r) n (all_rows after) m p.rows f }
+    record { grows = p.grows; sound = p.sound; here = last_there before (made_row s r) n (all_rows after) m p.rows f }
 
 -- a false row at the end
 
@@ -128,7 +139,7 @@ ends_so before after r p e = ap (λ (q : List PRow). ends_false q) p.rows ∙ en
 -- rows that stand
 
 pub live_grown : (before after : Log) (l : Live) → Grows before after → IsLive before l → IsLive after l
-live_grown before after l g h = record { here = g.rows l.number l.row h.here; fits = h.fits; cut = h.cut }
+live_grown before after l g h = record { here = g.rows l.number l.row h.here; fits = h.fits; cut = h.cut; unknown = h.unknown }
 
 pub lives_grown : (before after : Log) (ls : List Live) → Grows before after → AllByRecursion (IsLive before) ls → AllByRecursion (IsLive after) ls
 lives_grown before after ls g a = all_with (IsLive before) (IsLive after) ls (λ l h. live_grown before after l g h) a
@@ -137,7 +148,7 @@ pub live_at : (log : Log) (l : Live) → IsLive log l → IsAt (all_rows log) l.
 live_at log l h = record { here = h.here; fits = h.fits }
 
 pub remove_live : (P : Live → Type 0) (ls : List Live) (k : ℕ) → AllByRecursion P ls → AllByRecursion P (remove ls k)
-remove_live P ls k a = all_both P (take k ls) (drop (suc k) ls) (all_take P k ls a) (all_drop P (suc k) ls a)
+remove_live P ls k a = all_join P (take k ls) (drop (suc k) ls) (all_take P k ls a) (all_drop P (suc k) ls a)
 
 -- one after another
 
@@ -146,9 +157,6 @@ logs_both found a b d kept more f g = record { grows = grows_both a b d f.grows 
 
 pub logs_start : (log : Log) (ls : List Live) → IsLogged log ls → Logs false log log ls
 logs_start log ls h = record { grows = grows_not log; logged = h; ends = λ e. absurd cc }
-
-pub logs_nothing : (log : Log) → IsSound log → Logs false log log []
-logs_nothing log h = logs_start log [] (record { sound = h; lives = tt })
 
 pub found_is : (found what : Bool) (a b : Log) (ls : List Live) → found ≡ what → Logs found a b ls → Logs what a b ls
 found_is found what a b ls e l = subst (λ t. Logs t a b ls) e l
@@ -162,7 +170,7 @@ pub logs_kept : (a b : Log) (ls more : List Live) (r : PRow) (o : Origin) (n : �
 logs_kept a b ls more r o n k m e =
     let l : Live = record { row = r; number = n } in
     let all : AllByRecursion (IsLive b) (ls ++ l ∷ []) =
-    all_both (IsLive b) ls (l ∷ []) (lives_grown a b ls m.grows k.logged.lives) (record { here = m.here; fits = k.fits; cut = k.cut }, tt) in
+    all_join (IsLive b) ls (l ∷ []) (lives_grown a b ls m.grows k.logged.lives) (record { here = m.here; fits = k.fits; cut = k.cut; unknown = k.unknown }, tt) in
     record {
       grows = m.grows;
       logged = record { sound = m.sound; lives = subst (AllByRecursion (IsLive b)) (sym e) all };
@@ -178,28 +186,25 @@ logs_closed a b ls r h p e = record {
 }
 
 -- what has a number is logged once more, as the last row
-pub given_pushed : (a b : Log) (n : ℕ) (r : PRow) → IsSound a → Fits r.poly → cut_of r ≡ r → slice_get (all_rows a) n ≡ Some r → b.given.now ≡ a.given.now
-    → b.sources.items ≡ a.sources.items ++ Given n ∷ [] → IsPushed a b r
-given_pushed a b n r m f e h g s =
-    subst (IsPushed a b) e (pushed a b (Given n) r m (given_derives (all_rows a) n r (record { here = h; fits = f })) g s)
+pub given_pushed : (a b : Log) (n : ℕ) (r : PRow) → IsSound a → Fits r.poly → slice_get (all_rows a) n ≡ Some r → b.given.now ≡ a.given.now
+    → b.sources.items ≡ a.sources.items ++ record { combination = Given n; is_cut = false } ∷ [] → IsPushed a b r
+given_pushed a b n r m f h g s =
+    pushed a b (record { combination = Given n; is_cut = false }) r m (given_derives (all_rows a) n r (record { here = h; fits = f })) g s
 
-pub made_pushed : (a b : Log) (s : Source) (r whole : PRow) → IsSound a → Derives (all_rows a) s whole → r ≡ cut_of whole → b.given.now ≡ a.given.now
+pub made_pushed : (a b : Log) (s : Source) (r whole : PRow) → IsSound a → Derives (all_rows a) s.combination whole → r ≡ made_row s whole → b.given.now ≡ a.given.now
     → b.sources.items ≡ a.sources.items ++ s ∷ [] → IsPushed a b r
 made_pushed a b s r whole m d e g f = subst (IsPushed a b) (sym e) (pushed a b s whole m d g f)
 
-pub made_numbered : (a b : Log) (s : Source) (r whole : PRow) (n : ℕ) → IsSound a → Derives (all_rows a) s whole → r ≡ cut_of whole → b.given.now ≡ a.given.now
+pub made_numbered : (a b : Log) (s : Source) (r whole : PRow) (n : ℕ) → IsSound a → Derives (all_rows a) s.combination whole → r ≡ made_row s whole → b.given.now ≡ a.given.now
     → b.sources.items ≡ a.sources.items ++ s ∷ [] → n ≡ length a.given.now + length a.sources.items → IsNumbered a b r n
 made_numbered a b s r whole n m d e g f c = subst (λ q. IsNumbered a b q n) (sym e) (numbered a b s whole n m d g f c)
 
-pub stands_numbered : (a : Log) (r : PRow) (n : ℕ) → IsSound a → slice_get (all_rows a) n ≡ Some r → IsNumbered a a r n
-stands_numbered a r n m h = record { grows = grows_not a; sound = m; here = h }
+-- a row that is its own cut needs no cut
+pub given_origin : (log : Log) (n : ℕ) (whole : PRow) → Derives (all_rows log) (Given n) whole → cut_of whole ≡ whole → IsOrigin log (cut_of whole) (Stands n)
+given_origin log n whole d e = sym (hyp_means n (all_rows log)) ∙ d.means ∙ ap (λ (r : PRow). Some r) (sym e)
 
--- what gives a row that stands its number again
-pub live_origin : (log : Log) (l : Live) → IsLive log l → IsOrigin log (cut_of l.row) (Stands l.number)
-live_origin log l h = h.here ∙ ap (λ (r : PRow). Some r) (sym h.cut)
-
-pub source_origin : (log : Log) (s : Source) (r whole : PRow) → Derives (all_rows log) s whole → r ≡ whole → IsOrigin log (cut_of r) (Made s)
-source_origin log s r whole d e = (whole, d, ap (λ (q : PRow). cut_of q) e)
+pub same_derives : (log : Log) (s : Combination) (r whole : PRow) → Derives (all_rows log) s whole → r ≡ whole → Derives (all_rows log) s r
+same_derives log s r whole d e = subst (λ q. Derives (all_rows log) s q) (sym e) d
 
 -- the first of a list that is what is left of another
 
@@ -221,17 +226,17 @@ sides_grown before after ss g a = all_with (IsLiveSide before) (IsLiveSide after
 
 -- the sum of a pair
 
-pub pair_origin : (log : Log) (u : List (ℕ × ℕ)) (lower upper : Side) (sum : PRow) → IsSide u lower → IsSide u upper → IsLiveSide log lower → IsLiveSide log upper
+pub pair_made : (log : Log) (u : List (ℕ × ℕ)) (lower upper : Side) (sum : PRow) → IsSide u lower → IsSide u upper → IsLiveSide log lower → IsLiveSide log upper
     → pair_has_room u lower.live.row upper.live.row ≡ true → sum ≡ combined u lower.live.row upper.live.row → (a b : ℤ) → a ≡ pos upper.coeff → b ≡ pos lower.coeff
-    → IsOrigin log (cut_of sum) (Made (Pair a lower.live.number b upper.live.number))
-pair_origin log u lower upper sum s t i j room e a b f g =
+    → Derives (all_rows log) (Pair a lower.live.number b upper.live.number) sum
+pair_made log u lower upper sum s t i j room e a b f g =
     let l = lower.live.row in
     let h = upper.live.row in
     let d = pair_derives u (all_rows log) lower.live.number upper.live.number l h (live_at log lower.live i.live) (live_at log upper.live j.live) i.inequality j.inequality
     (subst (λ n. 1 ≤ n) s.coeff_is s.there) (subst (λ n. n < 2 ^ 126) s.coeff_is s.small) (subst (λ n. 1 ≤ n) t.coeff_is t.there) (subst (λ n. n < 2 ^ 126) t.coeff_is t.small) room in
-    subst (λ x. IsOrigin log (cut_of sum) (Made (Pair x lower.live.number b upper.live.number))) (sym f)
-    (subst (λ y. IsOrigin log (cut_of sum) (Made (Pair (pos upper.coeff) lower.live.number y upper.live.number))) (sym g)
-    (source_origin log (Pair (pos upper.coeff) lower.live.number (pos lower.coeff) upper.live.number) sum (combined u l h)
+    subst (λ x. Derives (all_rows log) (Pair x lower.live.number b upper.live.number) sum) (sym f)
+    (subst (λ y. Derives (all_rows log) (Pair (pos upper.coeff) lower.live.number y upper.live.number) sum) (sym g)
+    (same_derives log (Pair (pos upper.coeff) lower.live.number (pos lower.coeff) upper.live.number) sum (combined u l h)
     (subst (λ a. Derives (all_rows log) (Pair (pos a) lower.live.number (pos lower.coeff) upper.live.number) (combined u l h)) (sym t.coeff_is)
     (subst (λ b. Derives (all_rows log) (Pair (pos (unsigned_abs (coeff_in u h))) lower.live.number (pos b) upper.live.number) (combined u l h)) (sym s.coeff_is) d)) e))
 
@@ -250,15 +255,15 @@ nonzero_of k c e n z =
     differ (pos (suc k)) a n = omega arith
     differ (negsuc k) a n = omega arith
 
-pub sum_origin : (log : Log) (u : List (ℕ × ℕ)) (live equality : Live) (k : ℤ) (sum : PRow) → IsLive log live → IsLive log equality → equality.row.op ≡ Eq
+pub sum_made : (log : Log) (u : List (ℕ × ℕ)) (live equality : Live) (k : ℤ) (sum : PRow) → IsLive log live → IsLive log equality → equality.row.op ≡ Eq
     → int_eq (coeff_in u live.row) (pos 0) ≡ false → IsSmall k → solve_has_room u equality.row.poly (live.row ∷ []) ≡ true → unsigned_abs k ≡ unsigned_abs (coeff_in u live.row)
     → sum ≡ record { poly = plus live.row.poly (scaled k equality.row.poly); op = live.row.op }
-    → IsOrigin log (cut_of sum) (Made (Sum live.number k equality.number))
-sum_origin log u live equality k sum i j o n small room m e =
+    → Derives (all_rows log) (Sum live.number k equality.number) sum
+sum_made log u live equality k sum i j o n small room m e =
     let w = room_for u equality.row.poly live.row room n in
     let norms : norm live.row.poly * 1 + norm equality.row.poly * unsigned_abs k < 2 ^ 126 =
     subst (λ a. norm live.row.poly * 1 + norm equality.row.poly * a < 2 ^ 126) (sym m) w.norm_room in
-    source_origin log (Sum live.number k equality.number) sum (record { poly = plus live.row.poly (scaled k equality.row.poly); op = live.row.op })
+    same_derives log (Sum live.number k equality.number) sum (record { poly = plus live.row.poly (scaled k equality.row.poly); op = live.row.op })
     (sum_derives (all_rows log) live.number equality.number k live.row equality.row (live_at log live i) (live_at log equality j) o (nonzero_of k (coeff_in u live.row) m n) small norms w.spread_room) e
 
 pub fresh_logged : (log : Log) (ls : List Live) → IsSound log → ls ≡ [] → IsLogged log ls

@@ -13,17 +13,17 @@ use Rattle.mm_poly.proofs.CaseLaws.{by_if}
 use Rattle.cert_kit.specs.declared.row.PRow.{PRow}
 use Rattle.cert_kit.specs.declared.cert.Psatz.{Psatz}
 use Rattle.cert_kit.specs.declared.cert.Psatz.TheVariants.{Hyp, Square, MulPoly, Mul, Add, Const}
-use Rattle.cert_kit.specs.Cut.{cut_of}
 use Rattle.cert_kit.specs.Meaning.{meaning, multiple_row, product_row, sum_row}
-use Rattle.cert_kit.specs.Acceptance.{with_row, rows_after, steps_within, ends_false}
+use Rattle.cert_kit.specs.Acceptance.{with_row, rows_after, steps_within}
 use Rattle.cert_kit.proofs.FormLaws.{hyp_means, mulp_means, mul_means, add_means}
 use Rattle.fm_elim.specs.declared.source.Source.{Source}
-use Rattle.fm_elim.specs.declared.source.Source.TheVariants.{Given, Sum, Pair, Half, OtherHalf}
+use Rattle.fm_elim.specs.declared.source.Combination.{Combination}
+use Rattle.fm_elim.specs.declared.source.Combination.TheVariants.{Given, Sum, Pair, Half, OtherHalf}
 use Rattle.fm_elim.specs.declared.log.Log.{Log}
-use Rattle.fm_elim.specs.machine.Logging.{times_row, times_equality, expression, steps_of, rows_made, all_rows, IsSound, Contradict}
+use Rattle.fm_elim.specs.machine.Logging.{times_row, times_equality, expression, steps_of, made_row, all_rows, IsSound}
 use Rattle.fm_elim.specs.machine.Pruning.{renumbered, names_of, AreBelow, IsMarked, AreClosed, Marks, IsPlaced, ArePlaced, IsPlacedNext}
 use Rattle.fm_elim.proofs.ListLaws.{all_with}
-use Rattle.fm_elim.proofs.LoggingLaws.{made_none, get_front, get_last}
+use Rattle.fm_elim.proofs.LoggingLaws.{get_front, get_last}
 use Rattle.fm_elim.proofs.PruningLaws.{step_parts, number_given, number_there}
 
 -- a source names rows that stand before its own
@@ -59,7 +59,7 @@ sum_parts e f rows r h =
     let b = bind_some (meaning f rows) (λ s. Some (sum_row a.0 s)) r a.2 in
     record { first = a.0; second = b.0; first_means = a.1; second_means = b.1 }
 
-names_in : (s : Source) (rows : List PRow) (r : PRow) → meaning (expression s) rows ≡ Some r → AreBelow (length rows) (names_of s)
+names_in : (s : Combination) (rows : List PRow) (r : PRow) → meaning (expression s) rows ≡ Some r → AreBelow (length rows) (names_of s)
 names_in (Given n) rows r e = (hyp_in n rows r e, tt)
 names_in (Sum n k m) rows r e = let p = sum_parts (Hyp n) (times_equality k m) rows r e in (hyp_in n rows p.first p.first_means, (equality_in k m rows p.second p.second_means, tt))
 names_in (Pair a l b h) rows r e = let p = sum_parts (times_row a l) (times_row b h) rows r e in (times_in a l rows p.first p.first_means, (times_in b h rows p.second p.second_means, tt))
@@ -67,19 +67,19 @@ names_in (Half n) rows r e = let p = sum_parts (Hyp n) (Square []) rows r e in (
 names_in (OtherHalf n) rows r e = let p = sum_parts (MulPoly (constant_of (negsuc 0)) (Hyp n)) (Square []) rows r e in (mulp_in (negsuc 0) n rows p.first p.first_means, tt)
 
 names_at : (sources : List Source) (given rows : List PRow) (k : ℕ) (s : Source) → rows_after (steps_of sources) given ≡ Some rows → steps_within (steps_of sources) given ≡ true → slice_get sources k ≡ Some s
-    → AreBelow (length given + k) (names_of s)
+    → AreBelow (length given + k) (names_of s.combination)
 names_at [] given rows k s e w h = absurd cc
 names_at (t ∷ sources) given rows zero s e w h =
     let p = step_parts t given rows (steps_of sources) e w in
     let none : length given ≡ length given + 0 = omega arith in
-    subst (λ q. AreBelow (length given + 0) (names_of q)) (same_Some t s h) (subst (λ n. AreBelow n (names_of t)) none (names_in t given p.0 p.1))
+    subst (λ q. AreBelow (length given + 0) (names_of q.combination)) (same_Some t s h) (subst (λ n. AreBelow n (names_of t.combination)) none (names_in t.combination given p.0 p.1))
 names_at (t ∷ sources) given rows (suc k) s e w h =
     let p = step_parts t given rows (steps_of sources) e w in
-    let l = length-append given (cut_of p.0 ∷ []) in
-    let count : length (with_row given (cut_of p.0)) + k ≡ length given + suc k = omega (arith, l) in
-    subst (λ n. AreBelow n (names_of s)) count (names_at sources (with_row given (cut_of p.0)) rows k s p.3 p.4 h)
+    let l = length-append given (made_row t p.0 ∷ []) in
+    let count : length (with_row given (made_row t p.0)) + k ≡ length given + suc k = omega (arith, l) in
+    subst (λ n. AreBelow n (names_of s.combination)) count (names_at sources (with_row given (made_row t p.0)) rows k s p.3 p.4 h)
 
-pub names_below : (log : Log) (k : ℕ) (s : Source) → IsSound log → slice_get log.sources.items k ≡ Some s → AreBelow (length log.given.now + k) (names_of s)
+pub names_below : (log : Log) (k : ℕ) (s : Source) → IsSound log → slice_get log.sources.items k ≡ Some s → AreBelow (length log.given.now + k) (names_of s.combination)
 names_below log k s m h = names_at log.sources.items log.given.now (all_rows log) k s m.makes.made m.makes.within h
 
 -- marking
@@ -151,31 +151,18 @@ marked_both given first second a b c f s = record {
       ((λ g. s.grows (first - given) (p.0 g)), (q.0, tt));
 }
 
-pub closed_unmarked : (given : ℕ) (sources : List Source) (marks : List Bool) (n : ℕ) → (slice_get marks n ≡ Some true → ⊥) → AreClosed given sources marks (n + 1) → AreClosed given sources marks n
-closed_unmarked given sources marks n f c = λ j s l h e. by_place j s l h e (same_or n j)
-  where
-    by_place : (j : ℕ) (s : Source) → n ≤ j → slice_get marks j ≡ Some true → slice_get sources j ≡ Some s → (n ≡ j) ⊎ (n ≡ j → ⊥) → AllByRecursion (IsMarked given marks) (names_of s)
-    by_place j s l h e (inl i) = absurd (f (subst (λ k. slice_get marks k ≡ Some true) (sym i) h))
-    by_place j s l h e (inr d) = c j s (further l d) h e
-      where
-        further : n ≤ j → (n ≡ j → ⊥) → n + 1 ≤ j
-        further l d = grind arith
-
-pub closed_marked : (given : ℕ) (sources : List Source) (before after : List Bool) (n : ℕ) (t : Source) → Marks given (names_of t) before after → slice_get sources n ≡ Some t → AreBelow (given + n) (names_of t)
+pub closed_marked : (given : ℕ) (sources : List Source) (before after : List Bool) (n : ℕ) (t : Source) → Marks given (names_of t.combination) before after → slice_get sources n ≡ Some t → AreBelow (given + n) (names_of t.combination)
     → n ≤ length before → AreClosed given sources before (n + 1) → AreClosed given sources after n
 closed_marked given sources before after n t m here below i c = λ j s l h e. by_place j s l h e (same_or n j)
   where
-    by_place : (j : ℕ) (s : Source) → n ≤ j → slice_get after j ≡ Some true → slice_get sources j ≡ Some s → (n ≡ j) ⊎ (n ≡ j → ⊥) → AllByRecursion (IsMarked given after) (names_of s)
+    by_place : (j : ℕ) (s : Source) → n ≤ j → slice_get after j ≡ Some true → slice_get sources j ≡ Some s → (n ≡ j) ⊎ (n ≡ j → ⊥) → AllByRecursion (IsMarked given after) (names_of s.combination)
     by_place j s l h e (inl q) =
-        subst (λ x. AllByRecursion (IsMarked given after) (names_of x)) (same_Some t s (sym here ∙ ap (λ k. slice_get sources k) q ∙ e)) (m.marked n i below)
+        subst (λ x. AllByRecursion (IsMarked given after) (names_of x.combination)) (same_Some t s (sym here ∙ ap (λ k. slice_get sources k) q ∙ e)) (m.marked n i below)
     by_place j s l h e (inr d) =
-        all_with (IsMarked given before) (IsMarked given after) (names_of s) (λ x k g. m.grows (x - given) (k g)) (c j s (further l d) (m.only n below j l h) e)
+        all_with (IsMarked given before) (IsMarked given after) (names_of s.combination) (λ x k g. m.grows (x - given) (k g)) (c j s (further l d) (m.only n below j l h) e)
       where
         further : n ≤ j → (n ≡ j → ⊥) → n + 1 ≤ j
         further l d = grind arith
-
-pub closed_at_end : (given : ℕ) (sources : List Source) (marks : List Bool) (n : ℕ) → length marks ≡ n → AreClosed given sources marks n
-closed_at_end given sources marks n e = λ j s l h f. absurd (let w = slice_get_within marks j true h in omega (arith, e, l, w))
 
 -- new numbers
 
@@ -202,9 +189,9 @@ placed_next marks is_needed before after here p a = subst (ArePlaced marks) (sym
         earlier j n k e l d = grind arith
 
 pub placed_names : (given : ℕ) (sources : List Source) (marks : List Bool) (places : List (Option ℕ)) (n : ℕ) (s : Source) → AreClosed given sources marks 0 → ArePlaced marks places → length places ≡ n
-    → slice_get marks n ≡ Some true → slice_get sources n ≡ Some s → AreBelow (given + n) (names_of s) → AllByRecursion (IsPlaced given places) (names_of s)
+    → slice_get marks n ≡ Some true → slice_get sources n ≡ Some s → AreBelow (given + n) (names_of s.combination) → AllByRecursion (IsPlaced given places) (names_of s.combination)
 placed_names given sources marks places n s c a count here e below =
-    both (names_of s) (c n s (omega arith) here e) below
+    both (names_of s.combination) (c n s (omega arith) here e) below
   where
     one : (x : ℕ) → IsMarked given marks x → x < given + n → (x < given) ⊎ (given ≤ x) → IsPlaced given places x
     one x m b (inl l) = (x, number_given given places x l)
@@ -219,22 +206,15 @@ placed_names given sources marks places n s c a count here e below =
     both [] m b = tt
     both (x ∷ ns) m b = (one x m.0 b.0 (split x given), both ns m.1 b.1)
 
-pub renumbered_some : (f : ℕ → Option ℕ) (s : Source) → AllByRecursion (λ n. (m : ℕ) × (f n ≡ Some m)) (names_of s) → (t : Source) × (renumbered f s ≡ Some t)
+pub renumbered_some : (f : ℕ → Option ℕ) (s : Combination) → AllByRecursion (λ n. (m : ℕ) × (f n ≡ Some m)) (names_of s) → (t : Combination) × (renumbered f s ≡ Some t)
 renumbered_some f (Given n) a = (Given a.0.0, rw a.0.1 refl)
 renumbered_some f (Sum n k m) a = (Sum a.0.0 k a.1.0.0, rw a.0.1 (rw a.1.0.1 refl))
 renumbered_some f (Pair x l y h) a = (Pair x a.0.0 y a.1.0.0, rw a.0.1 (rw a.1.0.1 refl))
 renumbered_some f (Half n) a = (Half a.0.0, rw a.0.1 refl)
 renumbered_some f (OtherHalf n) a = (OtherHalf a.0.0, rw a.0.1 refl)
 
-pub not_none : (f : ℕ → Option ℕ) (s : Source) → AllByRecursion (λ n. (m : ℕ) × (f n ≡ Some m)) (names_of s) → renumbered f s ≡ None → ⊥
+pub not_none : (f : ℕ → Option ℕ) (s : Combination) → AllByRecursion (λ n. (m : ℕ) × (f n ≡ Some m)) (names_of s) → renumbered f s ≡ None → ⊥
 not_none f s a e = let t = renumbered_some f s a in differ (renumbered f s) t.0 e t.1
   where
-    differ : (o : Option Source) (t : Source) → o ≡ None → o ≡ Some t → ⊥
+    differ : (o : Option Combination) (t : Combination) → o ≡ None → o ≡ Some t → ⊥
     differ o t p q = cc
-
--- where nothing was made
-pub nothing_made : (log : Log) (sources : List Source) → ends_false (all_rows log) ≡ true → log.sources.items ≡ [] → sources ≡ [] → Contradict log.given.now sources
-nothing_made log sources e f g = subst (Contradict log.given.now) (sym g) (record {
-  sound = made_none log.given.now;
-  ends = ap (λ (q : List Source). ends_false (rows_made log.given.now q)) (sym f) ∙ e;
-})

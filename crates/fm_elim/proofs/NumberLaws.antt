@@ -17,6 +17,7 @@ use Rattle.fm_elim.specs.Points.{AreRows, AreLinear}
 use Rattle.fm_elim.specs.Answers.{Occurs, AreNumbered}
 use Rattle.fm_elim.proofs.ListLaws.{all_with}
 use Rattle.fm_elim.proofs.SolveLaws.{Has, Knows, known_rows, same_number}
+use Rattle.mm_poly.proofs.FactorLaws.{less_is}
 
 -- somewhere in a list
 
@@ -137,7 +138,7 @@ rise_with m (u ∷ us) r = by_cases (mono_cmp m u)
     (λ e. rw (e, with_unknown) r)
     (λ e. rw (e, with_unknown) (variables_with (λ w. mono_cmp u w ≡ Less) m us (mono_back m u e) r.0, rise_with m us r.1))
 
-rise_terms : (ts : List Term) (us : List (List (ℕ × ℕ))) → Rise us → Rise (with_unknowns ts us)
+pub rise_terms : (ts : List Term) (us : List (List (ℕ × ℕ))) → Rise us → Rise (with_unknowns ts us)
 rise_terms [] us r = r
 rise_terms (t ∷ ts) us r = by_test (is_constant t.mono) (rise_terms ts us r)
   where
@@ -150,9 +151,6 @@ rise_rows [] = tt
 rise_rows (r ∷ rows) = rise_terms r.poly (unknowns rows) (rise_rows rows)
 
 -- variables in order
-
-same_cmp : (v w : ℕ) → nat_cmp v w ≡ Less → v < w
-same_cmp v w e = grind arith
 
 then_same : (o : Ordering) → ordering_then (ordering_then o Equal) Equal ≡ o
 then_same Less = refl
@@ -169,7 +167,7 @@ not_both Greater e h = absurd cc
 
 variable_cmp : (v w : ℕ) → mono_cmp ((v, 1) ∷ []) ((w, 1) ∷ []) ≡ Less → v < w
 variable_cmp v w h = by_cases (nat_cmp v w)
-    (λ e. same_cmp v w e)
+    (λ e. less_is v w e)
     (λ e. absurd (mono_not_self ((v, 1) ∷ []) (subst (λ k. mono_cmp ((v, 1) ∷ []) ((k, 1) ∷ []) ≡ Less) (sym (nat_cmp-IsAntisymmetric v w e)) h)))
     (λ e. absurd (not_both (nat_cmp v w) e (sym (cmp_is v w) ∙ h)))
 

@@ -20,17 +20,13 @@ use Rattle.fm_elim.specs.declared.kept.Kept.{Kept}
 use Rattle.fm_elim.specs.Tidy.{is_inequality, are_parallel, is_tighter, tighter, put, is_constant_row, cuts, has_false}
 use Rattle.fm_elim.specs.machine.Tidying.{rows_of, parallel_from, Stands, Feeds}
 use Rattle.fm_elim.proofs.TidyLaws.{same_terms, length_kept}
+use Rattle.mm_num.proofs.BoolLaws.{same_tests}
 
 poly_total : IsTotalOrder poly_cmp
 poly_total = lists_total (then_total (on_total (λ (t : Term). t.mono) mono_total) (on_total (λ (t : Term). t.coeff) int_cmp_total))
 
-same_is : (p q : List Term) → p ≡ q → is_eq (poly_cmp p q) ≡ true
+pub same_is : (p q : List Term) → p ≡ q → is_eq (poly_cmp p q) ≡ true
 same_is p q e = ap is_eq (subst (λ r. poly_cmp p r ≡ Equal) e (tied_itself poly_total p))
-
-same_tests : (s t : Bool) → (s ≡ true → t ≡ true) → (t ≡ true → s ≡ true) → s ≡ t
-same_tests true t h k = sym (h refl)
-same_tests false true h k = k refl
-same_tests false false h k = refl
 
 -- a test of equality is the order's
 pub same_test : (p q : List Term) (b : Bool) → IsTrue b ↔ (p ≡ q) → b ≡ is_eq (poly_cmp p q)
@@ -80,12 +76,6 @@ pub same_item : {X : Type 0} (xs : List X) (k : ℕ) (x y : X) → slice_get xs 
 same_item xs k x y e h = same_Some y x (sym e ∙ slice_get_read xs (length xs) k x refl (slice_get_within xs k y e) h)
 
 -- the test of parallel rows, part by part
-
-pub first_not : (r s : PRow) → is_inequality r.op ≡ false → are_parallel r s ≡ false
-first_not r s e = rw e refl
-
-pub second_not : (r s : PRow) → is_inequality r.op ≡ true → is_inequality s.op ≡ false → are_parallel r s ≡ false
-second_not r s e f = rw (e, f) refl
 
 pub both_are : (r s : PRow) (b : Bool) → is_inequality r.op ≡ true → is_inequality s.op ≡ true
     → IsTrue b ↔ (without_constant r.poly ≡ without_constant s.poly) → b ≡ are_parallel r s

@@ -24,10 +24,10 @@ use Rattle.cert_kit.proofs.FormLaws.{hyp_means, square_means, mulp_means, mul_me
 use Rattle.cert_kit.proofs.RowOrderLaws.{row_same}
 use Rattle.fm_elim.specs.Unknowns.{coeff_in}
 use Rattle.fm_elim.specs.Steps.{has_room, combined, pair_has_room}
-use Rattle.fm_elim.specs.declared.source.Source.{Source}
-use Rattle.fm_elim.specs.declared.source.Source.TheVariants.{Given, Sum, Pair, Half, OtherHalf}
+use Rattle.fm_elim.specs.declared.source.Combination.{Combination}
+use Rattle.fm_elim.specs.declared.source.Combination.TheVariants.{Given, Sum, Pair, Half, OtherHalf}
 use Rattle.fm_elim.specs.machine.Logging.{times_row, times_equality, expression, IsFactor, IsSized, Derives}
-use Rattle.fm_elim.proofs.ScaledLaws.{one_scaled}
+use Rattle.mm_poly.proofs.FiniteLaws.{one_scaled}
 
 -- a row of this number, within the limits
 pub record IsAt (rows : List PRow) (n : ℕ) (r : PRow) : Type 0 where
@@ -207,7 +207,7 @@ equality_part rows k n r i o z w =
 
 -- sources
 
-derives : (rows : List PRow) (s : Source) (r q : PRow) (b : Bounds) → IsSized s → IsPart (expression s) rows r b → r ≡ q → Derives rows s q
+derives : (rows : List PRow) (s : Combination) (r q : PRow) (b : Bounds) → IsSized s → IsPart (expression s) rows r b → r ≡ q → Derives rows s q
 derives rows s r q b z p e = record { means = p.means ∙ ap (λ (x : PRow). Some x) e; within = p.within; sized = z }
 
 pub given_derives : (rows : List PRow) (n : ℕ) (r : PRow) → IsAt rows n r → Derives rows (Given n) r

@@ -12,8 +12,9 @@ use Rattle.cert_kit.specs.declared.row.PRow.{PRow}
 use Rattle.fm_elim.specs.Unknowns.{coeff_in, without, lowers, uppers}
 use Rattle.fm_elim.specs.Tidy.{End, Over}
 use Rattle.fm_elim.specs.Steps.{poly_at, substituted, solve_has_room, solved, halved, combined, combined_all, pairs_have_room, eliminated}
-use Rattle.fm_elim.proofs.ListLaws.{all_both, all_take, all_drop, all_at, all_map, all_with, all_filter}
+use Rattle.fm_elim.proofs.ListLaws.{all_take, all_drop, all_at, all_map, all_with, all_filter}
 use Rattle.fm_elim.proofs.TidyLaws.{IsPolyRow}
+use Rattle.mm_num.proofs.ListLaws.{all_join}
 
 abbrev same_result : Result (List PRow) End → Result (List PRow) End → Type 0
 same_result r s = r ≡ s
@@ -29,7 +30,7 @@ pub poly_at_poly : (rows : List PRow) (k : ℕ) → AllByRecursion IsPolyRow row
 poly_at_poly rows k a = poly_of rows (slice_get rows k) (λ r e. all_at IsPolyRow rows k r e a)
 
 pub remove_all : (P : PRow → Type 0) (rows : List PRow) (k : ℕ) → AllByRecursion P rows → AllByRecursion P (remove rows k)
-remove_all P rows k a = all_both P (take k rows) (drop (suc k) rows) (all_take P k rows a) (all_drop P (suc k) rows a)
+remove_all P rows k a = all_join P (take k rows) (drop (suc k) rows) (all_take P k rows a) (all_drop P (suc k) rows a)
 
 pub poly_substituted : (u : List (ℕ × ℕ)) (p : List Term) (r : PRow) → IsPoly p → IsPolyRow r → IsPolyRow (substituted u p r)
 poly_substituted u p r h k = by_if (int_eq (coeff_in u r) (pos 0)) r _ IsPolyRow (λ e. k) (λ e. poly_plus r.poly _ k (poly_scaled _ p h))
@@ -43,7 +44,7 @@ solved_polys k u rows after a = by_if (solve_has_room u (poly_at k rows) (remove
 
 pub halved_polys : (k : ℕ) (rows : List PRow) → AllByRecursion IsPolyRow rows → AllByRecursion IsPolyRow (halved k rows)
 halved_polys k rows a =
-    all_both IsPolyRow (take k rows) _ (all_take IsPolyRow k rows a)
+    all_join IsPolyRow (take k rows) _ (all_take IsPolyRow k rows a)
     (poly_at_poly rows k a, (poly_scaled (negsuc 0) (poly_at k rows) (poly_at_poly rows k a), all_drop IsPolyRow (suc k) rows a))
 
 pub poly_combined : (u : List (ℕ × ℕ)) (l h : PRow) → IsPolyRow l → IsPolyRow h → IsPolyRow (combined u l h)
@@ -52,7 +53,7 @@ poly_combined u l h a b = poly_plus _ _ (poly_scaled (pos (unsigned_abs (coeff_i
 pub combined_polys : (u : List (ℕ × ℕ)) (ls hs : List PRow) → AllByRecursion IsPolyRow ls → AllByRecursion IsPolyRow hs → AllByRecursion IsPolyRow (combined_all u ls hs)
 combined_polys u [] hs a b = tt
 combined_polys u (l ∷ ls) hs a b =
-    all_both IsPolyRow (map (combined u l) hs) (combined_all u ls hs)
+    all_join IsPolyRow (map (combined u l) hs) (combined_all u ls hs)
     (all_map IsPolyRow (combined u l) hs (all_with IsPolyRow (λ h. IsPolyRow (combined u l h)) hs (λ h k. poly_combined u l h a.0 k) b))
     (combined_polys u ls hs a.1 b)
 
@@ -60,6 +61,6 @@ pub eliminated_polys : (u : List (ℕ × ℕ)) (rows after : List PRow) → AllB
 eliminated_polys u rows after a = by_if (pairs_have_room u (lowers u rows) (uppers u rows)) (Ok (without u rows ++ combined_all u (lowers u rows) (uppers u rows))) (Err Over)
     (λ res. res ≡ Ok after → AllByRecursion IsPolyRow after)
     (λ b e. subst (AllByRecursion IsPolyRow) (ok_is (without u rows ++ combined_all u (lowers u rows) (uppers u rows)) after e)
-    (all_both IsPolyRow (without u rows) (combined_all u (lowers u rows) (uppers u rows)) (all_filter _ IsPolyRow IsPolyRow rows (λ r t h. h) a)
+    (all_join IsPolyRow (without u rows) (combined_all u (lowers u rows) (uppers u rows)) (all_filter _ IsPolyRow IsPolyRow rows (λ r t h. h) a)
     (combined_polys u (lowers u rows) (uppers u rows) (all_filter _ IsPolyRow IsPolyRow rows (λ r t h. h) a) (all_filter _ IsPolyRow IsPolyRow rows (λ r t h. h) a))))
     (λ b e. absurd cc)

@@ -17,6 +17,7 @@ use Rattle.cert_kit.specs.declared.row.PRow.{PRow}
 use Rattle.cert_kit.specs.declared.cert.Psatz.{Psatz}
 use Rattle.cert_kit.specs.declared.cert.Psatz.TheVariants.{Hyp, Square, MulPoly, Mul, Add, Const}
 use Rattle.cert_kit.specs.declared.cert.Step.{Step}
+use Rattle.cert_kit.specs.declared.cert.Step.TheVariants.{Rat, Cut}
 use Rattle.cert_kit.specs.Row.{is_false}
 use Rattle.cert_kit.specs.Cut.{cut_of}
 use Rattle.cert_kit.specs.Meaning.{meaning, measure, Measure, measure_of, own_bounds, no_bounds, product_bounds, sum_bounds, multiple_row, product_row, sum_row}
@@ -25,10 +26,11 @@ use Rattle.cert_kit.proofs.FormLaws.{hyp_means, square_means, mulp_means, mul_me
 use Rattle.cert_kit.proofs.NumberingLaws.{appended}
 use Rattle.cert_kit.proofs.MakerLaws.{ends_with}
 use Rattle.fm_elim.specs.declared.source.Source.{Source}
-use Rattle.fm_elim.specs.declared.source.Source.TheVariants.{Given, Sum, Pair, Half, OtherHalf}
+use Rattle.fm_elim.specs.declared.source.Combination.{Combination}
+use Rattle.fm_elim.specs.declared.source.Combination.TheVariants.{Given, Sum, Pair, Half, OtherHalf}
 use Rattle.fm_elim.specs.declared.log.Log.{Log}
 use Rattle.fm_elim.specs.declared.pruned.Pruned.{Pruned}
-use Rattle.fm_elim.specs.machine.Logging.{times_row, times_equality, expression, step_of, steps_of, rows_made, all_rows, IsSized, AreSound, IsSound, Derives, Contradict}
+use Rattle.fm_elim.specs.machine.Logging.{times_row, times_equality, expression, step_of, steps_of, made_row, rows_made, all_rows, IsSized, HasSizes, AreSound, IsSound, Derives, Contradict}
 use Rattle.fm_elim.specs.machine.Pruning.{new_number, renumbered, IsBoth, IsPruning, IsMade}
 use Rattle.fm_elim.proofs.LoggingLaws.{get_front, get_last, longer, made_none, count_rows}
 
@@ -92,11 +94,11 @@ Stand all out f = (n m : ℕ) → f n ≡ Some m → IsBoth all out n m
 moved : (all out : List PRow) (n m : ℕ) → IsBoth all out n m → slice_get out m ≡ slice_get all n
 moved all out n m b = b.after ∙ sym b.before
 
-pub record IsRenumbered (s t : Source) (out all : List PRow) : Type 0 where
+pub record IsRenumbered (s t : Combination) (out all : List PRow) : Type 0 where
   pub same : IsSame (expression t) (expression s) out all
   pub sized : IsSized s → IsSized t
 
-renumbers : (all out : List PRow) (f : ℕ → Option ℕ) (s t : Source) → Stand all out f → renumbered f s ≡ Some t → IsRenumbered s t out all
+renumbers : (all out : List PRow) (f : ℕ → Option ℕ) (s t : Combination) → Stand all out f → renumbered f s ≡ Some t → IsRenumbered s t out all
 renumbers all out f (Given n) t w e =
     let a = bind_some (f n) (λ m. Some (Given m)) t e in
     subst (λ q. IsRenumbered (Given n) q out all) (same_Some (Given a.0) t a.2)
@@ -131,23 +133,42 @@ renumbers all out f (OtherHalf n) t w e =
       sized = λ z. z;
     })
 
-pub renumbered_derives : (all out : List PRow) (f : ℕ → Option ℕ) (s t : Source) (r : PRow) → Stand all out f → renumbered f s ≡ Some t → Derives all s r → Derives out t r
+pub renumbered_derives : (all out : List PRow) (f : ℕ → Option ℕ) (s t : Combination) (r : PRow) → Stand all out f → renumbered f s ≡ Some t → Derives all s r → Derives out t r
 renumbered_derives all out f s t r w e d =
     let n = renumbers all out f s t w e in
     record { means = n.same.means ∙ d.means; within = ap (λ (m : Measure). m.within) n.same.measures ∙ d.within; sized = n.sized d.sized }
 
 -- each source of a sound log makes its row
 
+row_is : (o : Option PRow) → (o >>= λ r. Some r) ≡ o
+row_is None = refl
+row_is (Some r) = refl
+
+step_makes : (s : Source) (given : List PRow) → step_row (step_of s) given ≡ (meaning (expression s.combination) given >>= λ r. Some (made_row s r))
+step_makes s given = by_kind s.is_cut
+  where
+    by_kind : (b : Bool) → step_row (if b then Cut (expression s.combination) else Rat (expression s.combination)) given ≡ (meaning (expression s.combination) given >>= λ r. Some (if b then cut_of r else r))
+    by_kind true = refl
+    by_kind false = sym (row_is (meaning (expression s.combination) given))
+
+step_bounds : (s : Source) (given : List PRow) → step_within (step_of s) given ≡ (measure (expression s.combination) given).within
+step_bounds s given = by_if s.is_cut (Cut (expression s.combination)) (Rat (expression s.combination)) (λ t. step_within t given ≡ (measure (expression s.combination) given).within) (λ e. refl) (λ e. refl)
+
 pub step_parts : (s : Source) (given rows : List PRow) (steps : List Step) → rows_after (step_of s ∷ steps) given ≡ Some rows → steps_within (step_of s ∷ steps) given ≡ true
-    → (r : PRow) × (meaning (expression s) given ≡ Some r) × ((measure (expression s) given).within ≡ true) × (rows_after steps (with_row given (cut_of r)) ≡ Some rows)
-    × (steps_within steps (with_row given (cut_of r)) ≡ true)
+    → (r : PRow) × (meaning (expression s.combination) given ≡ Some r) × ((measure (expression s.combination) given).within ≡ true) × (rows_after steps (with_row given (made_row s r)) ≡ Some rows)
+    × (steps_within steps (with_row given (made_row s r)) ≡ true)
 step_parts s given rows steps e w =
     let b = bind_some (step_row (step_of s) given) (λ q. rows_after steps (with_row given q)) rows e in
-    let c = bind_some (meaning (expression s) given) (λ q. Some (cut_of q)) b.0 b.1 in
-    let same : cut_of c.0 ≡ b.0 = same_Some (cut_of c.0) b.0 c.2 in
+    let c = bind_some (meaning (expression s.combination) given) (λ q. Some (made_row s q)) b.0 (sym (step_makes s given) ∙ b.1) in
+    let same : made_row s c.0 ≡ b.0 = same_Some (made_row s c.0) b.0 c.2 in
     let p = and_parts (step_within (step_of s) given) (option_map_or (λ (q : PRow). steps_within steps (with_row given q)) (step_row (step_of s) given) true) w in
-    let later = subst (λ (o : Option PRow). option_map_or (λ (q : PRow). steps_within steps (with_row given q)) o true ≡ true) b.1 p.1 in
-    (c.0, c.1, p.0, subst (λ (q : PRow). rows_after steps (with_row given q) ≡ Some rows) (sym same) b.2, subst (λ (q : PRow). steps_within steps (with_row given q) ≡ true) (sym same) later)
+    let later = subst (λ (o : Option PRow). option_map_or (λ (q : PRow). steps_within steps (with_row given q)) o true ≡ true) b.1 p.1 in (
+      c.0,
+      c.1,
+      sym (step_bounds s given) ∙ p.0,
+      subst (λ (q : PRow). rows_after steps (with_row given q) ≡ Some rows) (sym same) b.2,
+      subst (λ (q : PRow). steps_within steps (with_row given q) ≡ true) (sym same) later,
+    )
 
 -- the given rows stand first
 front_of : (steps : List Step) (given rows : List PRow) → rows_after steps given ≡ Some rows → (more : List PRow) × (rows ≡ given ++ more)
@@ -159,33 +180,33 @@ front_of (s ∷ steps) given rows e =
 
 pub record IsMadeOf (all : List PRow) (s : Source) (n : ℕ) : Type 0 where
   pub row : PRow
-  pub derives : Derives all s row
-  pub here : slice_get all n ≡ Some (cut_of row)
+  pub derives : Derives all s.combination row
+  pub here : slice_get all n ≡ Some (made_row s row)
 
 made_at : (sources : List Source) (given rows : List PRow) (k : ℕ) (s : Source) → rows_after (steps_of sources) given ≡ Some rows → steps_within (steps_of sources) given ≡ true
-    → AllByRecursion IsSized sources → slice_get sources k ≡ Some s → IsMadeOf rows s (length given + k)
+    → AllByRecursion HasSizes sources → slice_get sources k ≡ Some s → IsMadeOf rows s (length given + k)
 made_at [] given rows k s e w a h = absurd cc
 made_at (t ∷ sources) given rows zero s e w a h =
     let p = step_parts t given rows (steps_of sources) e w in
-    let f = front_of (steps_of sources) (with_row given (cut_of p.0)) rows p.3 in
+    let f = front_of (steps_of sources) (with_row given (made_row t p.0)) rows p.3 in
     let g = front_of (step_of t ∷ steps_of sources) given rows e in
-    let m = appended (expression t) given g.0 p.0 p.1 in
-    let more : slice_get (with_row given (cut_of p.0) ++ f.0) (length given) ≡ Some (cut_of p.0) = get_front (with_row given (cut_of p.0)) f.0 (length given) (cut_of p.0) (get_last given (cut_of p.0)) in
+    let m = appended (expression t.combination) given g.0 p.0 p.1 in
+    let more : slice_get (with_row given (made_row t p.0) ++ f.0) (length given) ≡ Some (made_row t p.0) = get_front (with_row given (made_row t p.0)) f.0 (length given) (made_row t p.0) (get_last given (made_row t p.0)) in
     let none : length given ≡ length given + 0 = omega arith in
     subst (λ q. IsMadeOf rows q (length given + 0)) (same_Some t s h) (record {
       row = p.0;
       derives = record {
-        means = subst (λ (q : List PRow). meaning (expression t) q ≡ Some p.0) (sym g.1) m.0;
-        within = subst (λ (q : List PRow). (measure (expression t) q).within ≡ true) (sym g.1) (ap (λ (x : Measure). x.within) m.1 ∙ p.2);
+        means = subst (λ (q : List PRow). meaning (expression t.combination) q ≡ Some p.0) (sym g.1) m.0;
+        within = subst (λ (q : List PRow). (measure (expression t.combination) q).within ≡ true) (sym g.1) (ap (λ (x : Measure). x.within) m.1 ∙ p.2);
         sized = a.0;
       };
-      here = subst (λ n. slice_get rows n ≡ Some (cut_of p.0)) none (subst (λ (q : List PRow). slice_get q (length given) ≡ Some (cut_of p.0)) (sym f.1) more);
+      here = subst (λ n. slice_get rows n ≡ Some (made_row t p.0)) none (subst (λ (q : List PRow). slice_get q (length given) ≡ Some (made_row t p.0)) (sym f.1) more);
     })
 made_at (t ∷ sources) given rows (suc k) s e w a h =
     let p = step_parts t given rows (steps_of sources) e w in
-    let m = made_at sources (with_row given (cut_of p.0)) rows k s p.3 p.4 a.1 h in
-    let l = length-append given (cut_of p.0 ∷ []) in
-    let count : length (with_row given (cut_of p.0)) + k ≡ length given + suc k = omega (arith, l) in
+    let m = made_at sources (with_row given (made_row t p.0)) rows k s p.3 p.4 a.1 h in
+    let l = length-append given (made_row t p.0 ∷ []) in
+    let count : length (with_row given (made_row t p.0)) + k ≡ length given + suc k = omega (arith, l) in
     subst (λ n. IsMadeOf rows s n) count m
 
 pub log_made : (log : Log) (k : ℕ) (s : Source) → IsSound log → slice_get log.sources.items k ≡ Some s → IsMade log s k
@@ -256,33 +277,16 @@ begun log p m e f =
         }
     first given all more e n k (inr h) f = absurd (let q = subst (λ (ps : List (Option ℕ)). slice_get ps (n - length given) ≡ Some (Some k)) f h.1 in cc)
 
--- a row that isn't kept
-pub left_out : (log : Log) (p q : Pruned) → IsPruning log p → q.sources.items ≡ p.sources.items → q.places.items ≡ p.places.items ++ None ∷ [] → IsPruning log q
-left_out log p q h e f =
-    let given = log.given.now in
-    record {
-      sound = subst (AreSound given) (sym e) h.sound;
-      kept = λ n m k. subst (λ (ss : List Source). IsBoth (all_rows log) (rows_made given ss) n m) (sym e)
-          (h.kept n m (before (length given) n m (number_cases (length given) q.places.items n m k)));
-    }
-  where
-    before : (g n m : ℕ) → ((n < g) × (n ≡ m)) ⊎ ((g ≤ n) × (slice_get q.places.items (n - g) ≡ Some (Some m))) → new_number g p.places.items n ≡ Some m
-    before g n m (inl c) = subst (λ j. new_number g p.places.items n ≡ Some j) c.1 (number_given g p.places.items n c.0)
-    before g n m (inr c) =
-        elim (there_or_last p.places.items None (Some m) (n - g) (subst (λ (ps : List (Option ℕ)). slice_get ps (n - g) ≡ Some (Some m)) f c.1)) as (λ _. new_number g p.places.items n ≡ Some m) [
-          | inl t ↦ number_there g p.places.items n m c.0 t
-          | inr t ↦ absurd (let s = t.1 in cc)
-        ]
-
 -- a row that is kept
-pub kept_one : (log : Log) (p q : Pruned) (s t : Source) (number : ℕ) → IsPruning log p → IsMade log s (length p.places.items)
-    → renumbered (new_number (length log.given.now) p.places.items) s ≡ Some t → number ≡ length log.given.now + length p.sources.items
-    → q.sources.items ≡ p.sources.items ++ t ∷ [] → q.places.items ≡ p.places.items ++ Some number ∷ [] → IsPruning log q
+pub kept_one : (log : Log) (p q : Pruned) (s : Source) (t : Combination) (number : ℕ) → IsPruning log p → IsMade log s (length p.places.items)
+    → renumbered (new_number (length log.given.now) p.places.items) s.combination ≡ Some t → number ≡ length log.given.now + length p.sources.items
+    → q.sources.items ≡ p.sources.items ++ record { combination = t; is_cut = s.is_cut } ∷ [] → q.places.items ≡ p.places.items ++ Some number ∷ [] → IsPruning log q
 kept_one log p q s t number h w r c e f =
+    let u : Source = record { combination = t; is_cut = s.is_cut } in
     let given = log.given.now in
     let out = rows_made given p.sources.items in
-    let d = renumbered_derives (all_rows log) out (new_number (length given) p.places.items) s t w.row h.kept r w.derives in
-    let l = longer given p.sources.items q.sources.items t w.row h.sound d e in
+    let d = renumbered_derives (all_rows log) out (new_number (length given) p.places.items) s.combination t w.row h.kept r w.derives in
+    let l = longer given p.sources.items q.sources.items u w.row h.sound d e in
     let count : length out ≡ length given + length p.sources.items =
     count_rows (steps_of p.sources.items) given out h.sound.makes.made ∙ ap (λ k. length given + k) (length-map p.sources.items step_of) in
     record {
@@ -291,22 +295,22 @@ kept_one log p q s t number h w r c e f =
           (now (all_rows log) out (length given) n m (count ∙ sym c) w.here (number_cases (length given) q.places.items n m k) (λ j i. h.kept n j i));
     }
   where
-    now : (all out : List PRow) (g n m : ℕ) → length out ≡ number → slice_get all (g + length p.places.items) ≡ Some (cut_of w.row)
+    now : (all out : List PRow) (g n m : ℕ) → length out ≡ number → slice_get all (g + length p.places.items) ≡ Some (made_row s w.row)
         → ((n < g) × (n ≡ m)) ⊎ ((g ≤ n) × (slice_get q.places.items (n - g) ≡ Some (Some m))) → ((j : ℕ) → new_number g p.places.items n ≡ Some j → IsBoth all out n j)
-        → IsBoth all (with_row out (cut_of w.row)) n m
+        → IsBoth all (with_row out (made_row s w.row)) n m
     now all out g n m count here (inl c) k =
-        both_longer all out (cut_of w.row) n m (k m (subst (λ j. new_number g p.places.items n ≡ Some j) c.1 (number_given g p.places.items n c.0)))
+        both_longer all out (made_row s w.row) n m (k m (subst (λ j. new_number g p.places.items n ≡ Some j) c.1 (number_given g p.places.items n c.0)))
     now all out g n m count here (inr c) k =
         elim (there_or_last p.places.items (Some number) (Some m) (n - g) (subst (λ (ps : List (Option ℕ)). slice_get ps (n - g) ≡ Some (Some m)) f c.1))
-        as (λ _. IsBoth all (with_row out (cut_of w.row)) n m) [
-          | inl t ↦ both_longer all out (cut_of w.row) n m (k m (number_there g p.places.items n m c.0 t))
+        as (λ _. IsBoth all (with_row out (made_row s w.row)) n m) [
+          | inl t ↦ both_longer all out (made_row s w.row) n m (k m (number_there g p.places.items n m c.0 t))
           | inr t ↦
               let same : number ≡ m = same_Some number m t.1 in
               let at : g + length p.places.items ≡ n = (let i = t.0 in let j = c.0 in omega arith) in
               record {
-                row = cut_of w.row;
-                before = subst (λ j. slice_get all j ≡ Some (cut_of w.row)) at here;
-                after = subst (λ j. slice_get (with_row out (cut_of w.row)) j ≡ Some (cut_of w.row)) (count ∙ same) (get_last out (cut_of w.row));
+                row = made_row s w.row;
+                before = subst (λ j. slice_get all j ≡ Some (made_row s w.row)) at here;
+                after = subst (λ j. slice_get (with_row out (made_row s w.row)) j ≡ Some (made_row s w.row)) (count ∙ same) (get_last out (made_row s w.row));
               }
         ]
 
@@ -317,16 +321,17 @@ last_false all n r c h e =
     let at : length all - 1 ≡ n = omega (arith, c) in
     sym (ap (λ (o : Option PRow). option_map_or is_false o false) (ap (λ k. slice_get all k) at ∙ h)) ∙ e
 
-pub ended_so : (log : Log) (p : Pruned) (s t : Source) (sources : List Source) (k : ℕ) → IsSound log → ends_false (all_rows log) ≡ true → IsPruning log p → IsMade log s k
-    → length log.sources.items ≡ k + 1 → renumbered (new_number (length log.given.now) p.places.items) s ≡ Some t → sources ≡ p.sources.items ++ t ∷ [] → Contradict log.given.now sources
+pub ended_so : (log : Log) (p : Pruned) (s : Source) (t : Combination) (sources : List Source) (k : ℕ) → IsSound log → ends_false (all_rows log) ≡ true → IsPruning log p → IsMade log s k
+    → length log.sources.items ≡ k + 1 → renumbered (new_number (length log.given.now) p.places.items) s.combination ≡ Some t → sources ≡ p.sources.items ++ record { combination = t; is_cut = s.is_cut } ∷ [] → Contradict log.given.now sources
 ended_so log p s t sources k m f h w c r e =
+    let u : Source = record { combination = t; is_cut = s.is_cut } in
     let given = log.given.now in
     let out = rows_made given p.sources.items in
-    let d = renumbered_derives (all_rows log) out (new_number (length given) p.places.items) s t w.row h.kept r w.derives in
-    let l = longer given p.sources.items sources t w.row h.sound d e in
+    let d = renumbered_derives (all_rows log) out (new_number (length given) p.places.items) s.combination t w.row h.kept r w.derives in
+    let l = longer given p.sources.items sources u w.row h.sound d e in
     let n = count_rows (steps_of log.sources.items) given (all_rows log) m.makes.made ∙ ap (λ j. length given + j) (length-map log.sources.items step_of ∙ c) in
     let count : length (all_rows log) ≡ (length given + k) + 1 = omega (arith, n) in
     record {
       sound = l.sound;
-      ends = ap (λ (q : List PRow). ends_false q) l.rows ∙ ends_with out (cut_of w.row) ∙ last_false (all_rows log) (length given + k) (cut_of w.row) count w.here f;
+      ends = ap (λ (q : List PRow). ends_false q) l.rows ∙ ends_with out (made_row s w.row) ∙ last_false (all_rows log) (length given + k) (made_row s w.row) count w.here f;
     }

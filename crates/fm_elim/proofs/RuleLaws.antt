@@ -20,7 +20,8 @@ use Rattle.fm_elim.specs.declared.rule.Rule.TheVariants.{Finished, Solve, Halve,
 use Rattle.fm_elim.specs.Unknowns.{with_unknown, with_unknowns, unknowns}
 use Rattle.fm_elim.specs.Tidy.{is_inequality, is_constant_row}
 use Rattle.fm_elim.specs.Steps.{unit_unknown, solved_unknown, found_at, solvable_from, equality_from, is_exact, first_exact, first_of, exact_or, halve_or, solve_or, rule_of}
-use Rattle.fm_elim.proofs.TidyLaws.{IsPolyRow, HasUnknowns}
+use Rattle.fm_elim.specs.machine.Tidying.{HasUnknowns}
+use Rattle.fm_elim.proofs.TidyLaws.{IsPolyRow}
 
 abbrev pub IsUnknown : List (ℕ × ℕ) → Type 0
 IsUnknown u = is_constant u ≡ false

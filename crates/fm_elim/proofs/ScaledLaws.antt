@@ -5,25 +5,10 @@ use Rattle.std.specs.Ordering.{int_eq}
 use Rattle.std.proofs.lemmas.Bool.{and_parts}
 use Rattle.mm_num.proofs.TestLaws.{is_int}
 use Rattle.mm_poly.specs.declared.term.Term.{Term}
-use Rattle.mm_poly.specs.Poly.{IsPoly, norm, spread, coeff_of, with_coeff, plus, scaled}
-use Rattle.mm_poly.proofs.SumLaws.{with_nonzero}
-use Rattle.mm_poly.proofs.ValueLaws.{one_mul}
+use Rattle.mm_poly.specs.Poly.{norm, spread, coeff_of, plus, scaled}
 use Rattle.cert_kit.specs.declared.row.PRow.{PRow}
 use Rattle.fm_elim.specs.Unknowns.{coeff_in}
 use Rattle.fm_elim.specs.Steps.{has_room, substituted, solve_has_room}
-
-pub one_scaled : (p : List Term) → IsPoly p → scaled (pos 1) p ≡ p
-one_scaled [] h = refl
-one_scaled (t ∷ ts) h =
-    ap (λ c. with_coeff c t.mono (scaled (pos 1) ts)) (one_mul t.coeff) ∙ ap (λ (q : List Term). with_coeff t.coeff t.mono q) (one_scaled ts h.2)
-    ∙ with_nonzero t.coeff t.mono ts h.0
-
--- a sum that is made has the form that is asked for
-pub with_one : (q : PRow) (r : PRow) (p : List Term) (times : ℤ) → IsPoly r.poly → q.poly ≡ plus (scaled (pos 1) r.poly) (scaled times p) → q.op ≡ r.op
-    → q ≡ record { poly = plus r.poly (scaled times p); op = r.op }
-with_one q r p times h e o =
-    ap (λ s. let a : PRow = record { poly = s; op = q.op } in a) (e ∙ ap (λ (s : List Term). plus s (scaled times p)) (one_scaled r.poly h))
-    ∙ ap (λ k. let a : PRow = record { poly = plus r.poly (scaled times p); op = k } in a) o
 
 -- the room that the limits leave for a row with the unknown
 pub record HasRoomFor (r : PRow) (c : ℤ) (p : List Term) : Type 0 where

@@ -1,6 +1,6 @@
 -- The exact shadow (Pugh 1991): where all lower or all upper coefficients are 1, a whole number between the bounds
 -- exists where each pair of them leaves room.
-use Rattle.std.specs.Prelude.{◌≡◌, ℕ, ◌<◌, ◌⊎◌, ℤ, pos, negsuc, ◌+ℤ◌, ◌*ℤ◌, ◌≤ℤ◌, neg_ℤ, List, [], ◌∷◌}
+use Rattle.std.specs.Prelude.{◌≡◌, ℕ, ◌<◌, ◌⊎◌, ℤ, pos, ◌+ℤ◌, ◌*ℤ◌, ◌≤ℤ◌, neg_ℤ, List, [], ◌∷◌}
 use Rattle.std.proofs.Common.{inl, inr, ap, sym, ◌∙◌, subst, arith}
 use Rattle.std.proofs.lemmas.Int.{ints, int_min_is, int_max_is}
 use Rattle.std.specs.List.{AllByRecursion}
@@ -13,10 +13,7 @@ use Rattle.mm_poly.proofs.CutLaws.{cut_number}
 use Rattle.cert_kit.specs.declared.row.PRow.{PRow}
 use Rattle.fm_elim.specs.Points.{Values, least_allowed, greatest_allowed, lowered, raised}
 use Rattle.fm_elim.proofs.ListLaws.{all_zip}
-
-floor_one : (k : ℤ) → floor_by k 1 ≡ k
-floor_one (pos n) = omega (arith, ints)
-floor_one (negsuc n) = omega (arith, ints)
+use Rattle.mm_num.proofs.QuotientLaws.{by_one}
 
 first_bound : (k f : ℤ) → pos 0 ≤ℤ (k +ℤ f) → neg_ℤ k ≤ℤ f
 first_bound k f h = omega (arith, ints)
@@ -32,11 +29,11 @@ pub allows_both : (a b : ℕ) (k m : ℤ) → 0 < a → 0 < b → (a ≡ 1) ⊎ 
 allows_both a b k m h i (inl e) l =
     let one : pos a *ℤ m ≡ m = ap (λ n. pos n *ℤ m) e ∙ one_mul m in
     let p : pos 0 ≤ℤ (k +ℤ floor_by m b) = cut_number b k m i (subst (λ z. pos 0 ≤ℤ (pos b *ℤ k +ℤ z)) one l) in
-    subst (λ z. neg_ℤ z ≤ℤ floor_by m b) (sym (ap (floor_by k) e ∙ floor_one k)) (first_bound k (floor_by m b) p)
+    subst (λ z. neg_ℤ z ≤ℤ floor_by m b) (sym (ap (floor_by k) e ∙ by_one k)) (first_bound k (floor_by m b) p)
 allows_both a b k m h i (inr e) l =
     let one : pos b *ℤ k ≡ k = ap (λ n. pos n *ℤ k) e ∙ one_mul k in
     let p : pos 0 ≤ℤ (m +ℤ floor_by k a) = cut_number a m k h (swapped k (pos a *ℤ m) (subst (λ z. pos 0 ≤ℤ (z +ℤ pos a *ℤ m)) one l)) in
-    subst (λ z. neg_ℤ (floor_by k a) ≤ℤ z) (sym (ap (floor_by m) e ∙ floor_one m)) (second_bound m (floor_by k a) p)
+    subst (λ z. neg_ℤ (floor_by k a) ≤ℤ z) (sym (ap (floor_by m) e ∙ by_one m)) (second_bound m (floor_by k a) p)
 
 -- the chosen value is allowed
 

@@ -52,7 +52,7 @@ known_more : (us vs : List (List (ℕ × ℕ))) (p : List Term) → ((n : List (
 known_more us vs [] f a = tt
 known_more us vs (t ∷ ts) f a = (elim a.0 as (λ _. (t.mono ≡ []) ⊎ Has t.mono vs) [ inl s ↦ inl s | inr h ↦ inr (f t.mono h) ], known_more us vs ts f a.1)
 
-known_terms : (ts : List Term) (us : List (List (ℕ × ℕ))) → Knows (with_unknowns ts us) ts
+pub known_terms : (ts : List Term) (us : List (List (ℕ × ℕ))) → Knows (with_unknowns ts us) ts
 known_terms [] us = tt
 known_terms (t ∷ ts) us = by_mono t.mono (known_terms ts us)
   where

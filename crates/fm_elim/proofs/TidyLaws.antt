@@ -24,24 +24,24 @@ use Rattle.cert_kit.specs.Cut.{contradiction, divided, cut_by, cut_of}
 use Rattle.cert_kit.proofs.CutLaws.{cut_holds}
 use Rattle.cert_kit.proofs.SoundLaws.{false_holds}
 use Rattle.fm_elim.specs.Tidy.{End, Contra, Point, Grey, Over, is_inequality, are_parallel, is_tighter, tighter, put, is_constant_row, kept_after, cuts, has_false, within_512, tidied}
+use Rattle.fm_elim.specs.machine.Tidying.{HasUnknowns}
 use Rattle.fm_elim.specs.Points.{Values, HoldsBy}
-use Rattle.fm_elim.proofs.ListLaws.{all_both, all_first, all_second, all_map, all_unmap, all_with}
+use Rattle.fm_elim.proofs.ListLaws.{all_first, all_second, all_map, all_unmap, all_with}
 use Rattle.fm_elim.proofs.LinearCutLaws.{linear_parts, cut_back}
+use Rattle.mm_num.proofs.ListLaws.{all_join}
+use Rattle.mm_poly.proofs.ValueLaws.{zero_sum}
 
 -- what holds of the rows that are put in holds of those that stand
 pub all_put : (P : PRow → Type 0) (r : PRow) (rows : List PRow) → P r → AllByRecursion P rows → AllByRecursion P (put r rows)
 all_put P r [] h a = (h, tt)
 all_put P r (s ∷ rows) h a = by_if (are_parallel s r) (tighter s r rows) (s ∷ put r rows) (AllByRecursion P)
-    (λ e. by_if (is_tighter r s) (rows ++ r ∷ []) (s ∷ rows) (AllByRecursion P) (λ f. all_both P rows (r ∷ []) a.1 (h, tt)) (λ f. a))
+    (λ e. by_if (is_tighter r s) (rows ++ r ∷ []) (s ∷ rows) (AllByRecursion P) (λ f. all_join P rows (r ∷ []) a.1 (h, tt)) (λ f. a))
     (λ e. (a.0, all_put P r rows h a.1))
 
 pub all_kept : (P : PRow → Type 0) (rows kept : List PRow) → AllByRecursion P rows → AllByRecursion P kept → AllByRecursion P (kept_after rows kept)
 all_kept P [] kept a b = b
 all_kept P (r ∷ rows) kept a b =
     all_kept P rows _ a.1 (by_if (is_constant_row r) kept (put r kept) (AllByRecursion P) (λ e. b) (λ e. all_put P r kept a.0 b))
-
-abbrev pub HasUnknowns : PRow → Type 0
-HasUnknowns r = is_constant_row r ≡ false
 
 pub kept_unknowns : (rows kept : List PRow) → AllByRecursion HasUnknowns kept → AllByRecursion HasUnknowns (kept_after rows kept)
 kept_unknowns [] kept b = b
@@ -147,9 +147,6 @@ no_terms w (t ∷ ts) h = absurd cc
 true_constant : (o : Op) (k : ℤ) → is_false_constant o k ≡ false → Compares o k
 true_constant Ge k e = grind (arith, ints)
 true_constant Eq k e = grind (arith, ints)
-
-zero_sum : (n : ℤ) → pos 0 +ℤ n ≡ n
-zero_sum n = omega (arith, ints)
 
 -- a constant row that isn't false holds
 constant_holds : (w : Values) (r : PRow) → w [] ≡ pos 1 → is_constant_row r ≡ true → is_false r ≡ false → HoldsBy w r

@@ -5,9 +5,9 @@ ghost use Rattle.mm_poly.specs.Poly.{constant_of};
 ghost use Rattle.cert_kit.specs.declared.cert.Psatz.TheVariants.{Add as IsAdd, MulPoly as IsMulPoly, Hyp as IsHyp};
 ghost use Rattle.cert_kit.specs.Acceptance.{IsGood};
 ghost use Rattle.cert_kit.specs.Depth.{cert_depth, MakesCert};
-ghost use Rattle.fm_elim.specs.machine.Logging.{times_row, times_equality, expression, steps_of, IsSized, Contradict};
+ghost use Rattle.fm_elim.specs.machine.Logging.{times_row, times_equality, expression, step_of, steps_of, IsSized, HasSizes, Contradict};
 
-use crate::source::Source;
+use crate::source::{Combination, Source};
 use cert_kit::{Cert, Close, PRow, Psatz, Step};
 use mm_poly::Poly;
 use sqlite_items::Boxed;
@@ -31,35 +31,47 @@ pub fn certificate(alloc: Global, given: &[PRow], sources: &[Source]) -> Result<
 
 // A step for each source.
 fn steps_of(alloc: Global, sources: &[Source]) -> Result<Vec<Step>, AllocError>
-    requires { AllByRecursion IsSized sources.now }
+    requires { AllByRecursion HasSizes sources.now }
     ensures { IfOk result (λ steps. steps.items ≡ steps_of sources.now) }
 {
     let mut steps = Vec::with_capacity(alloc, sources.len())?;
     for source in sources {
-        steps.push(Step::Cut(expression(alloc, *source)?))?;
+        steps.push(step_of(alloc, *source)?)?;
     }
     Ok(steps)
 }
 
-// The expression whose cut a row is.
-fn expression(alloc: Global, source: Source) -> Result<Psatz, AllocError>
-    requires { IsSized source }
-    ensures { IfOk result (λ e. e ≡ expression source) }
+fn step_of(alloc: Global, source: Source) -> Result<Step, AllocError>
+    requires { HasSizes source }
+    ensures { IfOk result (λ s. s ≡ step_of source) }
 {
-    match source {
-        Source::Given(row) => Ok(Psatz::Hyp(row)),
-        Source::Sum(row, times, equality) => {
+    let expression = expression(alloc, source.combination)?;
+    if source.is_cut {
+        Ok(Step::Cut(expression))
+    } else {
+        Ok(Step::Rat(expression))
+    }
+}
+
+// The expression that means a combination.
+fn expression(alloc: Global, combination: Combination) -> Result<Psatz, AllocError>
+    requires { IsSized combination }
+    ensures { IfOk result (λ e. e ≡ expression combination) }
+{
+    match combination {
+        Combination::Given(row) => Ok(Psatz::Hyp(row)),
+        Combination::Sum(row, times, equality) => {
             let second = times_equality(alloc, times, equality)?;
             let sum = added(alloc, Psatz::Hyp(row), second)?;
             Ok(sum)
         }
-        Source::Pair(first_times, first, second_times, second) => {
+        Combination::Pair(first_times, first, second_times, second) => {
             let first = times_row(alloc, first_times, first)?;
             let second = times_row(alloc, second_times, second)?;
             let sum = added(alloc, first, second)?;
             Ok(sum)
         }
-        Source::Half(row) => {
+        Combination::Half(row) => {
             let half = added(
                 alloc,
                 Psatz::Hyp(row),
@@ -67,7 +79,7 @@ fn expression(alloc: Global, source: Source) -> Result<Psatz, AllocError>
             )?;
             Ok(half)
         }
-        Source::OtherHalf(row) => {
+        Combination::OtherHalf(row) => {
             let negation = multiplied(alloc, -1, row)?;
             let half = added(alloc, negation, Psatz::Square(Poly::constant(alloc, 0)?))?;
             Ok(half)

@@ -1,11 +1,10 @@
 ghost use Rattle.std.specs.Prelude.{◌≡◌, ◌+◌, [], ◌∷◌, ◌++◌, length, IfOk, OnOk};
 ghost use Rattle.mm_poly.specs.Poly.{Fits};
 ghost use Rattle.cert_kit.specs.declared.row.PRow.{PRow as ARow};
-ghost use Rattle.cert_kit.specs.Cut.{cut_of};
 ghost use Rattle.fm_elim.specs.machine.Logging.{IsSound, IsOrigin, IsNumbered, IsPushed};
 
 use crate::log::Log;
-use crate::source::{Origin, Source};
+use crate::source::{Combination, Origin, Source};
 use cert_kit::PRow;
 use std::alloc::{AllocError, Global};
 
@@ -52,11 +51,14 @@ impl<'a> Log<'a> {
     /// Logs a row as the last one, also where it has a number.
     pub fn close(&mut self, origin: Origin) -> Result<(), AllocError>
         requires { IsSound self.old }
-        ensures { OnOk result ((row : ARow) → Fits row.poly → cut_of row ≡ row → IsOrigin self.old row origin → IsPushed self.old self.new row) }
+        ensures { OnOk result ((row : ARow) → Fits row.poly → IsOrigin self.old row origin → IsPushed self.old self.new row) }
     {
         match origin {
             Origin::Stands(number) => {
-                self.push(Source::Given(number))?;
+                self.push(Source {
+                    combination: Combination::Given(number),
+                    is_cut: false,
+                })?;
                 Ok(())
             }
             Origin::Made(source) => {

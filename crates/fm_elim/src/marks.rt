@@ -3,7 +3,7 @@ ghost use Rattle.fm_elim.specs.machine.Logging.{IsSound};
 ghost use Rattle.fm_elim.specs.machine.Pruning.{names_of, AreClosed, Marks};
 
 use crate::log::Log;
-use crate::source::Source;
+use crate::source::Combination;
 use std::alloc::{AllocError, Global};
 
 /// Whether the last row needs each row that was made.
@@ -48,19 +48,19 @@ fn mark_needed(marks: &mut [bool], log: &Log<'_>, n: usize)
     if !is_needed {
         return;
     }
-    mark_rows(marks, log.given.len(), log.sources[n]);
+    mark_rows(marks, log.given.len(), log.sources[n].combination);
 }
 
-// Marks the rows that a source names.
-fn mark_rows(marks: &mut [bool], given: usize, source: Source)
-    ensures { Marks given (names_of source) marks.old marks.new }
+// Marks the rows that a combination names.
+fn mark_rows(marks: &mut [bool], given: usize, combination: Combination)
+    ensures { Marks given (names_of combination) marks.old marks.new }
 {
-    match source {
-        Source::Given(row) => mark(marks, given, row),
-        Source::Sum(first, _, second) => mark_both(marks, given, first, second),
-        Source::Pair(_, first, _, second) => mark_both(marks, given, first, second),
-        Source::Half(row) => mark(marks, given, row),
-        Source::OtherHalf(row) => mark(marks, given, row),
+    match combination {
+        Combination::Given(row) => mark(marks, given, row),
+        Combination::Sum(first, _, second) => mark_both(marks, given, first, second),
+        Combination::Pair(_, first, _, second) => mark_both(marks, given, first, second),
+        Combination::Half(row) => mark(marks, given, row),
+        Combination::OtherHalf(row) => mark(marks, given, row),
     }
 }
 

@@ -9,7 +9,7 @@ use crate::kept::Kept;
 use crate::log::Log;
 use crate::room::{combination, has_room};
 use crate::sides::Side;
-use crate::source::{Origin, Source};
+use crate::source::Combination;
 use cert_kit::{Op, PRow};
 use mm_poly::Mono;
 use std::alloc::{AllocError, Global};
@@ -70,13 +70,13 @@ pub fn take_sums(
 {
     for upper in uppers {
         let sum = sum(alloc, unknown, lower, upper)?;
-        let source = Source::Pair(
+        let combination = Combination::Pair(
             upper.coeff as i128,
             lower.live.number,
             lower.coeff as i128,
             upper.live.number,
         );
-        if kept.take(alloc, log, sum, Origin::Made(source))? {
+        if kept.take(alloc, log, sum, combination)? {
             return Ok(true);
         }
     }

@@ -5,9 +5,9 @@ ghost use Rattle.fm_elim.specs.Unknowns.{unknowns};
 ghost use Rattle.fm_elim.specs.Points.{unknown_of, values_of, greatest_value};
 ghost use Rattle.fm_elim.specs.machine.Giving.{given, AreWithin, IsRemoval, IsGiven};
 
-use crate::choice::add_unknowns;
 use crate::giving::{value_after, value_of};
 use crate::removal::Removal;
+use crate::unknowns::add_unknowns;
 use crate::value::{Given, Value};
 use cert_kit::PRow;
 use mm_poly::{Mono, NORM_LIMIT};

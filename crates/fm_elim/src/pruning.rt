@@ -7,7 +7,7 @@ ghost use Rattle.fm_elim.specs.machine.Pruning.{new_number, renumbered, names_of
 use crate::log::Log;
 use crate::marks::marks;
 use crate::pruned::Pruned;
-use crate::source::Source;
+use crate::source::{Combination, Source};
 use std::alloc::{AllocError, Global};
 
 /// The sources that the last row needs, over the new numbers of their rows.
@@ -37,7 +37,7 @@ impl Pruned {
     fn keep(&mut self, log: &Log<'_>, source: Source, is_needed: bool) -> Result<(), AllocError>
         requires pruning { IsPruning log.now self.old }
         requires made { IsMade log.now source (length self.old.places.items) }
-        requires names { is_needed ≡ true → AllByRecursion (IsPlaced (length log.now.given.now) self.old.places.items) (names_of source) }
+        requires names { is_needed ≡ true → AllByRecursion (IsPlaced (length log.now.given.now) self.old.places.items) (names_of source.combination) }
         ensures pruning { OnOk result (IsPruning log.now self.new) }
         ensures places { OnOk result (IsPlacedNext is_needed self.old.places.items self.new.places.items) }
     {
@@ -45,12 +45,15 @@ impl Pruned {
             self.places.push(None)?;
             return Ok(());
         }
-        let source = self.moved(log.given.len(), source);
+        let combination = self.moved(log.given.len(), source.combination);
         let number = log.given.len() + self.sources.len();
         if number > u32::MAX as usize {
             return Err(AllocError);
         }
-        self.sources.push(source)?;
+        self.sources.push(Source {
+            combination,
+            is_cut: source.is_cut,
+        })?;
         self.places.push(Some(number as u32))?;
         Ok(())
     }
@@ -62,45 +65,48 @@ impl Pruned {
         requires ends { ends_false (all_rows log.now) ≡ true }
         requires last { slice_get log.now.sources.items (length self.places.items) ≡ Some last }
         requires count { length log.now.sources.items ≡ length self.places.items + 1 }
-        requires names { AllByRecursion (IsPlaced (length log.now.given.now) self.places.items) (names_of last) }
+        requires names { AllByRecursion (IsPlaced (length log.now.given.now) self.places.items) (names_of last.combination) }
         ensures { IfOk result (λ sources. Contradict log.now.given.now sources.items) }
     {
-        let source = self.moved(log.given.len(), last);
+        let combination = self.moved(log.given.len(), last.combination);
         let mut sources = self.sources;
-        sources.push(source)?;
+        sources.push(Source {
+            combination,
+            is_cut: last.is_cut,
+        })?;
         Ok(sources)
     }
 
-    // A source over the new numbers of its rows, each of which has one.
-    fn moved(&self, given: usize, source: Source) -> Source
-        requires { AllByRecursion (IsPlaced given self.now.places.items) (names_of source) }
-        ensures { renumbered (new_number given self.now.places.items) source ≡ Some result }
+    // A combination over the new numbers of its rows, each of which has one.
+    fn moved(&self, given: usize, combination: Combination) -> Combination
+        requires { AllByRecursion (IsPlaced given self.now.places.items) (names_of combination) }
+        ensures { renumbered (new_number given self.now.places.items) combination ≡ Some result }
     {
-        match self.renumbered(given, source) {
+        match self.renumbered(given, combination) {
             Some(moved) => moved,
             None => unreachable!(),
         }
     }
 
-    // A source over the new numbers of its rows, where each has one.
-    fn renumbered(&self, given: usize, source: Source) -> Option<Source>
-        ensures { result ≡ renumbered (new_number given self.now.places.items) source }
+    // A combination over the new numbers of its rows, where each has one.
+    fn renumbered(&self, given: usize, combination: Combination) -> Option<Combination>
+        ensures { result ≡ renumbered (new_number given self.now.places.items) combination }
     {
-        match source {
-            Source::Given(row) => Some(Source::Given(self.number(given, row)?)),
-            Source::Sum(row, times, equality) => Some(Source::Sum(
+        match combination {
+            Combination::Given(row) => Some(Combination::Given(self.number(given, row)?)),
+            Combination::Sum(row, times, equality) => Some(Combination::Sum(
                 self.number(given, row)?,
                 times,
                 self.number(given, equality)?,
             )),
-            Source::Pair(first, lower, second, upper) => Some(Source::Pair(
+            Combination::Pair(first, lower, second, upper) => Some(Combination::Pair(
                 first,
                 self.number(given, lower)?,
                 second,
                 self.number(given, upper)?,
             )),
-            Source::Half(row) => Some(Source::Half(self.number(given, row)?)),
-            Source::OtherHalf(row) => Some(Source::OtherHalf(self.number(given, row)?)),
+            Combination::Half(row) => Some(Combination::Half(self.number(given, row)?)),
+            Combination::OtherHalf(row) => Some(Combination::OtherHalf(self.number(given, row)?)),
         }
     }
 

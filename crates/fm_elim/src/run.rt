@@ -1,18 +1,17 @@
-ghost use Rattle.std.specs.Prelude.{◌≡◌, ◌≤◌, ◌<◌, ◌^◌, ℕ, suc, true, length, Result, List, [], slice_get, Some, IfOk};
+ghost use Rattle.std.specs.Prelude.{◌≡◌, ◌≤◌, ◌<◌, ◌^◌, ℕ, suc, true, length, Result, List, [], IfOk};
 ghost use Rattle.cert_kit.specs.declared.row.PRow.{PRow as ARow};
 ghost use Rattle.fm_elim.specs.declared.rule.Rule.TheVariants.{Finished as IsFinished, Solve as IsSolve, Halve as IsHalve, Exact as IsExact, Inexact as IsInexact};
 ghost use Rattle.fm_elim.specs.Tidy.{End, tidied};
 ghost use Rattle.fm_elim.specs.Steps.{rule_of};
 ghost use Rattle.fm_elim.specs.Elimination.{Outcome, greatest_norm, next, outcome_in, enough_steps, outcome};
 ghost use Rattle.fm_elim.specs.machine.Sides.{sides_of};
-ghost use Rattle.fm_elim.specs.machine.Tidying.{rows_of, StepsTo};
+ghost use Rattle.fm_elim.specs.machine.Tidying.{rows_of, AreStanding, StandsTidy, StepsTo};
 ghost use Rattle.std.specs.List.{AllByRecursion};
 ghost use Rattle.cert_kit.specs.declared.row.Op.TheVariants.{Ge as IsInequal};
-ghost use Rattle.cert_kit.specs.Cut.{cut_of};
 ghost use Rattle.fm_elim.specs.declared.log.Log.{Log as ALog};
-ghost use Rattle.fm_elim.specs.machine.Logging.{IsOrigin, IsLogged, LogsStep, all_rows};
+ghost use Rattle.fm_elim.specs.machine.Logging.{IsLogged, LogsStep, all_rows};
 ghost use Rattle.fm_elim.specs.machine.Logged.{LogsRan, LogsNext};
-ghost use Rattle.fm_elim.specs.machine.Running.{wrapped, IsRunning, IsRuling, IsRan, IsNext};
+ghost use Rattle.fm_elim.specs.machine.Running.{wrapped, IsRunning, IsRuling, IsRan, IsNext, NextStands};
 
 use crate::choice::next_rule;
 use crate::kept::Kept;
@@ -21,7 +20,7 @@ use crate::log::Log;
 use crate::removal::Removal;
 use crate::rule::Rule;
 use crate::sides::{Side, split};
-use crate::source::{Origin, Source};
+use crate::source::Combination;
 use crate::standing::{eliminate, halve};
 use crate::state::{Next, Ran, State};
 use crate::step::solve;
@@ -59,28 +58,17 @@ fn tidy_rows(alloc: Global, log: &mut Log<'_>, rows: &[PRow]) -> Result<Stepped,
 {
     let mut kept = Kept::new(alloc);
     for (n, row) in rows.iter().enumerate() {
-        let origin = origin_of(row, n as u32);
-        if kept.take(alloc, log, row.copy(alloc)?, origin)? {
+        let _ = row.poly.spread();
+        if kept.take(alloc, log, row.copy(alloc)?, Combination::Given(n as u32))? {
             return Ok(Stepped::Contra);
         }
     }
     Ok(kept.end())
 }
 
-// A row that is its own cut needs no step.
-fn origin_of(row: &PRow, number: u32) -> Origin
-    ensures { (log : ALog) → slice_get (all_rows log) number ≡ Some row.now → IsOrigin log (cut_of row.now) result }
-{
-    if row.poly.content() <= 1 {
-        Origin::Stands(number)
-    } else {
-        Origin::Made(Source::Given(number))
-    }
-}
-
 // The outcome of tidy rows.
 fn run_from(alloc: Global, log: &mut Log<'_>, rows: Vec<Live>) -> Result<Ran, AllocError>
-    requires few { length rows.items ≤ 512 }
+    requires tidy { AreStanding (rows_of rows.items) }
     requires logged { IsLogged log.old rows.items }
     ensures logged { IfOk result (λ r. LogsRan r log.old log.new) }
     ensures ran { IfOk result (λ r. IsRan r (outcome_in (enough_steps (rows_of rows.items)) true (rows_of rows.items))) }
@@ -127,7 +115,9 @@ fn greatest_norm(rows: &[Live]) -> u128
 
 // What comes after the rule that applies.
 fn step(alloc: Global, log: &mut Log<'_>, state: State) -> Result<Next, AllocError>
-    requires { IsLogged log.old state.rows.items }
+    requires logged { IsLogged log.old state.rows.items }
+    requires tidy { AreStanding (rows_of state.rows.items) }
+    ensures tidy { IfOk result NextStands }
     ensures next { IfOk result (λ x. (n : ℕ) (whole : Outcome) → IsRunning whole (suc n) state → IsNext x n whole) }
     ensures logged { IfOk result (λ x. LogsNext x log.old log.new) }
 {
@@ -146,6 +136,8 @@ fn step(alloc: Global, log: &mut Log<'_>, state: State) -> Result<Next, AllocErr
 fn step_by(alloc: Global, log: &mut Log<'_>, state: State, rule: Rule) -> Result<Next, AllocError>
     requires rule { rule ≡ rule_of (rows_of state.rows.items) }
     requires logged { IsLogged log.old state.rows.items }
+    requires tidy { AreStanding (rows_of state.rows.items) }
+    ensures tidy { IfOk result NextStands }
     ensures next { IfOk result (λ x. (n : ℕ) (whole : Outcome) → IsRuling whole n state rule → IsNext x n whole) }
     ensures logged { IfOk result (λ x. LogsNext x log.old log.new) }
 {
@@ -174,6 +166,7 @@ fn go_on(stepped: Stepped, exact: bool, removed: Vec<Removal>, norm: u128) -> Ne
     ensures next { (n : ℕ) (answer : Result (List ARow) End) (whole : Outcome) → StepsTo stepped answer
         → whole ≡ wrapped removed.items norm (next (outcome_in n exact) answer) → IsNext result n whole }
     ensures logged { (before after : ALog) → LogsStep stepped before after → LogsNext result before after }
+    ensures tidy { StandsTidy stepped → NextStands result }
 {
     match stepped {
         Stepped::Rows(rows) => Next::Going(State {
@@ -197,6 +190,7 @@ fn step_solve(
     requires rule { rule_of (rows_of state.rows.items) ≡ IsSolve place unknown }
     requires logged { IsLogged log.old state.rows.items }
     ensures logged { IfOk result (λ x. LogsNext x log.old log.new) }
+    ensures tidy { IfOk result NextStands }
     ensures next { IfOk result (λ x. (n : ℕ) (whole : Outcome) → IsRuling whole n state (IsSolve place unknown) → IsNext x n whole) }
 {
     let mut rows = state.rows;
@@ -217,6 +211,7 @@ fn step_halve(
     requires rule { rule_of (rows_of state.rows.items) ≡ IsHalve place }
     requires logged { IsLogged log.old state.rows.items }
     ensures logged { IfOk result (λ x. LogsNext x log.old log.new) }
+    ensures tidy { IfOk result NextStands }
     ensures next { IfOk result (λ x. (n : ℕ) (whole : Outcome) → IsRuling whole n state (IsHalve place) → IsNext x n whole) }
 {
     let stepped = halve(alloc, log, state.rows, place)?;
@@ -230,8 +225,10 @@ fn step_exact(
     unknown: Mono,
 ) -> Result<Next, AllocError>
     requires inequalities { AllByRecursion (λ (r : ARow). r.op ≡ IsInequal) (rows_of state.rows.items) }
+    requires tidy { AreStanding (rows_of state.rows.items) }
     requires logged { IsLogged log.old state.rows.items }
     ensures logged { IfOk result (λ x. LogsNext x log.old log.new) }
+    ensures tidy { IfOk result NextStands }
     ensures next { IfOk result (λ x. (n : ℕ) (whole : Outcome) → IsRuling whole n state (IsExact unknown) → IsNext x n whole) }
 {
     let parts = split(alloc, state.rows, &unknown)?;
@@ -257,8 +254,10 @@ fn step_inexact(
     unknown: Mono,
 ) -> Result<Next, AllocError>
     requires inequalities { AllByRecursion (λ (r : ARow). r.op ≡ IsInequal) (rows_of state.rows.items) }
+    requires tidy { AreStanding (rows_of state.rows.items) }
     requires logged { IsLogged log.old state.rows.items }
     ensures logged { IfOk result (λ x. LogsNext x log.old log.new) }
+    ensures tidy { IfOk result NextStands }
     ensures next { IfOk result (λ x. (n : ℕ) (whole : Outcome) → IsRuling whole n state (IsInexact unknown) → IsNext x n whole) }
 {
     let parts = split(alloc, state.rows, &unknown)?;

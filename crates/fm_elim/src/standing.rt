@@ -7,14 +7,14 @@ ghost use Rattle.fm_elim.specs.machine.Sides.{IsSide, sides_of, sums_of};
 ghost use Rattle.fm_elim.specs.machine.Halves.{half_of, other_half_of, parts_at};
 ghost use Rattle.cert_kit.specs.declared.row.Op.TheVariants.{Eq as IsEquality};
 ghost use Rattle.fm_elim.specs.machine.Logging.{IsLive, IsLiveSide, IsLogged, Logs, LogsStep};
-ghost use Rattle.fm_elim.specs.machine.Tidying.{rows_of, Goes, StepsTo, then_tidied};
+ghost use Rattle.fm_elim.specs.machine.Tidying.{rows_of, AreStanding, Goes, StepsTo, then_tidied};
 
 use crate::kept::Kept;
 use crate::live::Live;
 use crate::log::Log;
 use crate::pairs::{pairs_have_room, take_all_sums};
 use crate::sides::Side;
-use crate::source::{Origin, Source};
+use crate::source::Combination;
 use crate::stepped::Stepped;
 use cert_kit::{Op, PRow};
 use mm_poly::Mono;
@@ -31,6 +31,7 @@ pub fn eliminate(
 ) -> Result<Stepped, AllocError>
     requires lowers { AllByRecursion (IsSide unknown.now) lowers.now }
     requires uppers { AllByRecursion (IsSide unknown.now) uppers.now }
+    requires tidy { AreStanding (rows_of without.items) }
     requires logged { IsLogged log.old without.items }
     requires live_lowers { AllByRecursion (IsLiveSide log.old) lowers.now }
     requires live_uppers { AllByRecursion (IsLiveSide log.old) uppers.now }
@@ -40,34 +41,11 @@ pub fn eliminate(
     if !pairs_have_room(unknown, lowers, uppers) {
         return Ok(Stepped::Over);
     }
-    let mut kept = Kept::new(alloc);
-    if take_standing(alloc, &mut kept, log, without)? {
-        return Ok(Stepped::Contra);
-    }
+    let mut kept = Kept::standing(without);
     if take_all_sums(alloc, &mut kept, log, unknown, lowers, uppers)? {
         return Ok(Stepped::Contra);
     }
     Ok(kept.end())
-}
-
-// Takes rows that stand, and answers whether one was found whose cut is constant and false.
-fn take_standing(
-    alloc: Global,
-    kept: &mut Kept,
-    log: &mut Log<'_>,
-    rows: Vec<Live>,
-) -> Result<bool, AllocError>
-    requires logged { IsLogged log.old kept.old.rows.items }
-    requires lives { AllByRecursion (IsLive log.old) rows.items }
-    ensures goes { IfOk result (λ found. Goes found kept.old kept.new (rows_of rows.items)) }
-    ensures logged { IfOk result (λ found. Logs found log.old log.new kept.new.rows.items) }
-{
-    for live in rows {
-        if kept.take(alloc, log, live.row, Origin::Stands(live.number))? {
-            return Ok(true);
-        }
-    }
-    Ok(false)
 }
 
 /// The rows with the equality at a place as two inequalities, tidied.
@@ -109,8 +87,8 @@ fn take_parts(
     ensures logged { IfOk result (λ found. Logs found log.old log.new kept.new.rows.items) }
 {
     if !is_halved {
-        let found = kept.take(alloc, log, live.row, Origin::Stands(live.number))?;
-        return Ok(found);
+        kept.keep(log, live)?;
+        return Ok(false);
     }
     let found = take_halves(alloc, kept, log, live)?;
     Ok(found)
@@ -136,14 +114,9 @@ fn take_halves(
         poly: live.row.poly,
         op: Op::Ge,
     };
-    if kept.take(alloc, log, half, Origin::Made(Source::Half(live.number)))? {
+    if kept.take(alloc, log, half, Combination::Half(live.number))? {
         return Ok(true);
     }
-    let found = kept.take(
-        alloc,
-        log,
-        other,
-        Origin::Made(Source::OtherHalf(live.number)),
-    )?;
+    let found = kept.take(alloc, log, other, Combination::OtherHalf(live.number))?;
     Ok(found)
 }

@@ -13,7 +13,7 @@ use crate::kept::Kept;
 use crate::live::Live;
 use crate::log::Log;
 use crate::room::{combination, has_room, size_of};
-use crate::source::{Origin, Source};
+use crate::source::Combination;
 use crate::stepped::Stepped;
 use cert_kit::PRow;
 use mm_poly::{Mono, Poly};
@@ -91,13 +91,13 @@ fn substitute(
 {
     let coeff = live.row.poly.coefficient(unknown);
     if coeff == 0 {
-        let found = kept.take(alloc, log, live.row, Origin::Stands(live.number))?;
-        return Ok(found);
+        kept.keep(log, live)?;
+        return Ok(false);
     }
     let times = negated_product(coeff, equality.row.poly.coefficient(unknown));
     let row = with_multiple(alloc, &live.row, times, &equality.row.poly)?;
-    let source = Source::Sum(live.number, times, equality.number);
-    let found = kept.take(alloc, log, row, Origin::Made(source))?;
+    let combination = Combination::Sum(live.number, times, equality.number);
+    let found = kept.take(alloc, log, row, combination)?;
     Ok(found)
 }
 

@@ -1,18 +1,19 @@
-ghost use Rattle.std.specs.Prelude.{◌≡◌, List, [], ◌∷◌, ◌++◌, false, Some, Result, IfOk, OnOk};
-ghost use Rattle.cert_kit.specs.declared.row.PRow.{PRow};
+ghost use Rattle.std.specs.Prelude.{◌≡◌, List, [], ◌∷◌, ◌++◌, ◌≤◌, length, false, Some, Result, IfOk, OnOk};
+ghost use Rattle.cert_kit.specs.declared.row.PRow.{PRow, PRow as ARow};
 ghost use Rattle.fm_elim.specs.Tidy.{End, put};
 ghost use Rattle.mm_poly.specs.Poly.{Fits};
 ghost use Rattle.cert_kit.specs.Cut.{cut_of};
 ghost use Rattle.fm_elim.specs.declared.log.Log.{Log as ALog};
-ghost use Rattle.fm_elim.specs.machine.Logging.{IsOrigin, CanKeep, IsLogged, Logs, LogsStep};
+ghost use Rattle.fm_elim.specs.machine.Logging.{all_rows, Derives, IsOrigin, IsLive, CanKeep, IsLogged, Logs, LogsStep};
 ghost use Rattle.fm_elim.specs.machine.Tidying.{rows_of, parallel_from, Stands, Feeds, IsTidying, StepsTo};
 
 use crate::kept::Kept;
 use crate::live::Live;
 use crate::log::Log;
 use crate::parallel::{is_tighter, parallel_place};
-use crate::source::Origin;
+use crate::source::{Combination, Origin, Source};
 use crate::stepped::Stepped;
+use crate::tidied::Tidied;
 use cert_kit::{PRow, false_row};
 use std::alloc::{AllocError, Global};
 
@@ -31,20 +32,49 @@ impl Kept {
         }
     }
 
-    /// Takes a row, and answers whether its cut is constant and false. Such a row is the last one of the log.
+    /// Tidy rows are kept as they stand.
+    pub fn standing(rows: Vec<Live>) -> Kept
+        requires { length rows.items ≤ 512 }
+        ensures over { result.is_over ≡ false }
+        ensures rows { result.rows.items ≡ rows.items }
+    {
+        Kept {
+            rows,
+            is_over: false,
+        }
+    }
+
+    /// Takes a row that stands.
+    pub fn keep(&mut self, log: &mut Log<'_>, live: Live) -> Result<(), AllocError>
+        requires logged { IsLogged log.old self.old.rows.items }
+        requires live { IsLive log.old live }
+        ensures feeds { OnOk result (Feeds false self.old self.new (live.row ∷ [])) }
+        ensures logged { OnOk result (Logs false log.old log.new self.new.rows.items) }
+    {
+        if self.is_over {
+            return Ok(());
+        }
+        self.put(log, live.row, Origin::Stands(live.number))?;
+        Ok(())
+    }
+
+    /// Takes the row that a combination means, and answers whether its cut is constant and false. Such a row is the last
+    /// one of the log.
     pub fn take(
         &mut self,
         alloc: Global,
         log: &mut Log<'_>,
         row: PRow,
-        origin: Origin,
+        combination: Combination,
     ) -> Result<bool, AllocError>
         requires logged { IsLogged log.old self.old.rows.items }
-        requires origin { IsOrigin log.old (cut_of row) origin }
+        requires derives { Derives (all_rows log.old) combination row }
         ensures feeds { IfOk result (λ found. Feeds found self.old self.new (row ∷ [])) }
         ensures logged { IfOk result (λ found. Logs found log.old log.new self.new.rows.items) }
     {
-        let row = tidy_cut(alloc, row)?;
+        let cut = tidy_cut(alloc, row)?;
+        let origin = origin_of(combination, cut.is_cut);
+        let row = cut.row;
         if false_row(&row) {
             log.close(origin)?;
             return Ok(true);
@@ -119,14 +149,33 @@ impl Kept {
     }
 }
 
-// The cut of a row, which is its own cut.
-fn tidy_cut(alloc: Global, row: PRow) -> Result<PRow, AllocError>
-    ensures cut { IfOk result (λ r. r ≡ cut_of row) }
-    ensures itself { IfOk result (λ r. cut_of r ≡ r) }
-    ensures fits { IfOk result (λ r. Fits r.poly) }
+// The cut of a row: the row itself where its content is 0 or 1.
+fn tidy_cut(alloc: Global, row: PRow) -> Result<Tidied, AllocError>
+    ensures cut { IfOk result (λ t. t.row ≡ cut_of row) }
+    ensures changed { IfOk result (λ t. t.is_cut ≡ false → cut_of row ≡ row) }
+    ensures itself { IfOk result (λ t. cut_of t.row ≡ t.row) }
+    ensures fits { IfOk result (λ t. Fits t.row.poly) }
 {
-    let _ = row.poly.spread();
+    if row.poly.content() <= 1 {
+        return Ok(Tidied { row, is_cut: false });
+    }
     let cut = row.into_cut(alloc)?;
     let _ = cut.poly.spread();
-    Ok(cut)
+    Ok(Tidied {
+        row: cut,
+        is_cut: true,
+    })
+}
+
+// A row that was given and is its own cut has a number.
+fn origin_of(combination: Combination, is_cut: bool) -> Origin
+    ensures { (log : ALog) (whole : ARow) → Derives (all_rows log) combination whole → (is_cut ≡ false → cut_of whole ≡ whole) → IsOrigin log (cut_of whole) result }
+{
+    match combination {
+        Combination::Given(row) if !is_cut => Origin::Stands(row),
+        _ => Origin::Made(Source {
+            combination,
+            is_cut,
+        }),
+    }
 }

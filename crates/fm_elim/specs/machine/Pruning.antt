@@ -4,19 +4,19 @@ use Rattle.std.specs.List.{AllByRecursion}
 use Rattle.std.specs.Option.{option_map_or}
 use Rattle.mm_num.specs.Option.{◌>>=◌}
 use Rattle.cert_kit.specs.declared.row.PRow.{PRow}
-use Rattle.cert_kit.specs.Cut.{cut_of}
 use Rattle.fm_elim.specs.declared.source.Source.{Source}
-use Rattle.fm_elim.specs.declared.source.Source.TheVariants.{Given, Sum, Pair, Half, OtherHalf}
+use Rattle.fm_elim.specs.declared.source.Combination.{Combination}
+use Rattle.fm_elim.specs.declared.source.Combination.TheVariants.{Given, Sum, Pair, Half, OtherHalf}
 use Rattle.fm_elim.specs.declared.log.Log.{Log}
 use Rattle.fm_elim.specs.declared.pruned.Pruned.{Pruned}
-use Rattle.fm_elim.specs.machine.Logging.{rows_made, all_rows, AreSound, Derives}
+use Rattle.fm_elim.specs.machine.Logging.{made_row, rows_made, all_rows, AreSound, Derives}
 
 -- a row's new number, where it is kept: given rows keep theirs
 abbrev pub new_number : ℕ → List (Option ℕ) → ℕ → Option ℕ
 new_number given places n = if nat_lt n given then Some n else option_map_or (λ (o : Option ℕ). o) (slice_get places (n - given)) None
 
--- the source over new numbers, where each of its rows has one
-abbrev pub renumbered : (ℕ → Option ℕ) → Source → Option Source
+-- the combination over new numbers, where each of its rows has one
+abbrev pub renumbered : (ℕ → Option ℕ) → Combination → Option Combination
 renumbered f (Given n) = do
   m ← f n
   Some (Given m)
@@ -49,11 +49,11 @@ pub record IsPruning (log : Log) (p : Pruned) : Type 0 where
 -- the source makes the row of this number after the given ones
 pub record IsMade (log : Log) (s : Source) (k : ℕ) : Type 0 where
   pub row : PRow
-  pub derives : Derives (all_rows log) s row
-  pub here : slice_get (all_rows log) (length log.given.now + k) ≡ Some (cut_of row)
+  pub derives : Derives (all_rows log) s.combination row
+  pub here : slice_get (all_rows log) (length log.given.now + k) ≡ Some (made_row s row)
 
--- the rows that a source names
-abbrev pub names_of : Source → List ℕ
+-- the rows that a combination names
+abbrev pub names_of : Combination → List ℕ
 names_of (Given n) = n ∷ []
 names_of (Sum n k m) = n ∷ m ∷ []
 names_of (Pair a l b h) = l ∷ h ∷ []
@@ -69,7 +69,7 @@ IsMarked given marks n = given ≤ n → slice_get marks (n - given) ≡ Some tr
 
 -- the rows that marked sources name are marked, from the source at k on
 abbrev pub AreClosed : ℕ → List Source → List Bool → ℕ → Type 0
-AreClosed given sources marks k = (j : ℕ) (s : Source) → k ≤ j → slice_get marks j ≡ Some true → slice_get sources j ≡ Some s → AllByRecursion (IsMarked given marks) (names_of s)
+AreClosed given sources marks k = (j : ℕ) (s : Source) → k ≤ j → slice_get marks j ≡ Some true → slice_get sources j ≡ Some s → AllByRecursion (IsMarked given marks) (names_of s.combination)
 
 -- what marking rows does: nothing from k on, where they are below it
 pub record Marks (given : ℕ) (names : List ℕ) (before after : List Bool) : Type 0 where

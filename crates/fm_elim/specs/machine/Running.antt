@@ -9,7 +9,7 @@ use Rattle.fm_elim.specs.declared.state.Next.{Next}
 use Rattle.fm_elim.specs.declared.state.Next.TheVariants as after
 use Rattle.fm_elim.specs.Tidy.{Contra, Point, Grey, Over}
 use Rattle.fm_elim.specs.Elimination.{Outcome, by_rule, outcome_in}
-use Rattle.fm_elim.specs.machine.Tidying.{rows_of}
+use Rattle.fm_elim.specs.machine.Tidying.{rows_of, AreStanding}
 
 -- an outcome with what came before
 abbrev pub wrapped : List Removal → ℕ → Outcome → Outcome
@@ -33,3 +33,8 @@ IsRan ran.Over whole = whole.end ≡ Over
 abbrev pub IsNext : Next → ℕ → Outcome → Type 0
 IsNext (after.Going s) n whole = IsRunning whole n s
 IsNext (after.Ended r) n whole = IsRan r whole
+
+-- the rows that go on are tidy
+abbrev pub NextStands : Next → Type 0
+NextStands (after.Going s) = AreStanding (rows_of s.rows.items)
+NextStands (after.Ended r) = Unit {0}

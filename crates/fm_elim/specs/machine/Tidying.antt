@@ -1,12 +1,13 @@
 -- Rows that are tidied one after another.
-use Rattle.std.specs.Prelude.{◌≡◌, ℕ, ◌+◌, ◌<◌, List, [], ◌∷◌, ◌++◌, length, map, Bool, true, false, Option, Some, None, Result, Ok, Err, if◌then◌else◌}
+use Rattle.std.specs.Prelude.{◌≡◌, ℕ, ◌+◌, ◌<◌, ◌≤◌, List, [], ◌∷◌, ◌++◌, length, map, Bool, true, false, Option, Some, None, Result, Ok, Err, if◌then◌else◌}
+use Rattle.std.specs.List.{AllByRecursion}
 use Rattle.mm_num.specs.Result.{◌>>=◌}
 use Rattle.cert_kit.specs.declared.row.PRow.{PRow}
 use Rattle.fm_elim.specs.declared.live.Live.{Live}
 use Rattle.fm_elim.specs.declared.kept.Kept.{Kept}
 use Rattle.fm_elim.specs.declared.stepped.Stepped.{Stepped}
 use Rattle.fm_elim.specs.declared.stepped.Stepped.TheVariants as stepped
-use Rattle.fm_elim.specs.Tidy.{End, Contra, Over, are_parallel, kept_after, cuts, has_false, within_512, tidied}
+use Rattle.fm_elim.specs.Tidy.{End, Contra, Over, are_parallel, is_constant_row, kept_after, cuts, has_false, within_512, tidied}
 
 abbrev pub rows_of : List Live → List PRow
 rows_of lives = map (λ (l : Live). l.row) lives
@@ -40,6 +41,25 @@ pub record IsTidying (answer : Result (List PRow) End) (kept : Kept) (rest : Lis
 abbrev pub Goes : Bool → Kept → Kept → List PRow → Type 0
 Goes true before after rows = (answer : Result (List PRow) End) (rest : List PRow) → IsTidying answer before (rows ++ rest) → answer ≡ Err Contra
 Goes false before after rows = (answer : Result (List PRow) End) (rest : List PRow) → IsTidying answer before (rows ++ rest) → IsTidying answer after rest
+
+abbrev pub HasUnknowns : PRow → Type 0
+HasUnknowns r = is_constant_row r ≡ false
+
+-- no two of them are parallel
+abbrev pub AreApart : List PRow → Type 0
+AreApart [] = Unit {0}
+AreApart (r ∷ rows) = AllByRecursion (λ s. are_parallel r s ≡ false) rows × AreApart rows
+
+-- rows that tidying leaves as they are, where each is its own cut
+pub record AreStanding (rows : List PRow) : Type 0 where
+  pub few : length rows ≤ 512
+  pub unknown : AllByRecursion HasUnknowns rows
+  pub apart : AreApart rows
+
+abbrev pub StandsTidy : Stepped → Type 0
+StandsTidy (stepped.Rows lives) = AreStanding (rows_of lives.items)
+StandsTidy stepped.Contra = Unit {0}
+StandsTidy stepped.Over = Unit {0}
 
 -- how a step ends
 abbrev pub StepsTo : Stepped → Result (List PRow) End → Type 0

@@ -12,7 +12,7 @@ use Rattle.fm_elim.specs.Steps.{pair_has_room}
 use Rattle.fm_elim.specs.machine.Sides.{IsSide}
 use Rattle.fm_elim.specs.machine.Logging.{IsLiveSide}
 use Rattle.fm_elim.proofs.FedLaws.{toward_next}
-use Rattle.fm_elim.proofs.LoggingLaws.{logs_next, side_grown, pair_origin, wide_pos}
+use Rattle.fm_elim.proofs.LoggingLaws.{logs_next, side_grown, pair_made, wide_pos}
 use Rattle.std.proofs.Common.{to_z}
 use Rattle.std.specs.Int.{w128}
 use Rattle.fm_elim.proofs.pairs.take_sums.Goals as goal
@@ -34,8 +34,8 @@ returns-then-branch-clause-goes c =
 pub take-requires-clause-logged : goal.take-requires-clause-logged
 take-requires-clause-logged c = c.loop-upper.invariant.logs.logged
 
-pub take-requires-clause-origin : goal.take-requires-clause-origin
-take-requires-clause-origin c =
+pub take-requires-clause-derives : goal.take-requires-clause-derives
+take-requires-clause-derives c =
     let u = c.args.unknown.now in
     let xs = c.args.uppers.now in
     let i = c.loop-upper.upper-index in
@@ -48,7 +48,7 @@ take-requires-clause-origin c =
     let sides = subst (AllByRecursion (IsSide u)) here c.loop-upper.invariant.sides in
     let lives = subst (AllByRecursion (IsLiveSide c.args.log.now)) here c.loop-upper.invariant.lives in
     let g = c.loop-upper.invariant.logs.grows in
-    pair_origin c.loop-upper.log u lower item c.in_ok-sum.sum c.requires.lower sides.0 (side_grown c.args.log.now c.loop-upper.log lower g c.requires.live_lower)
+    pair_made c.loop-upper.log u lower item c.in_ok-sum.sum c.requires.lower sides.0 (side_grown c.args.log.now c.loop-upper.log lower g c.requires.live_lower)
     (side_grown c.args.log.now c.loop-upper.log item g lives.0) (and_parts (pair_has_room u lower.live.row item.live.row) (list_all (pair_has_room u lower.live.row) (sides_of (drop (i + 1) xs))) room).0
     c.in_ok-sum.ensures (to_z w128 item.coeff) (to_z w128 lower.coeff) (wide_pos item.coeff sides.0.small) (wide_pos lower.coeff c.requires.lower.small)
 

@@ -1,6 +1,8 @@
 use Rattle.std.proofs.Common.{subst}
 use Rattle.fm_elim.specs.declared.stepped.Stepped.{Stepped}
 use Rattle.fm_elim.specs.machine.Logging.{LogsStep}
+use Rattle.fm_elim.specs.machine.Tidying.{StandsTidy}
+use Rattle.fm_elim.proofs.StandingLaws.{step_standing}
 use Rattle.fm_elim.proofs.LoggingLaws.{ran_after}
 use Rattle.fm_elim.proofs.run.run.Goals as goal
 
@@ -16,3 +18,6 @@ returns-in_ok-ran-in-Rows-clause-logged c =
 
 pub returns-in-Contra-clause-logged : goal.returns-in-Contra-clause-logged
 returns-in-Contra-clause-logged c = subst (λ (s : Stepped). LogsStep s c.args.log.now c.tidy_rows.new.log) c.in-Contra.is c.in_ok-kept.ensures.logged
+
+pub run_from-requires-clause-tidy : goal.run_from-requires-clause-tidy
+run_from-requires-clause-tidy c = subst StandsTidy c.in-Rows.is (step_standing c.in_ok-kept.field-0 c.args.rows.now c.in_ok-kept.ensures.rows)

@@ -2,7 +2,7 @@ use Rattle.std.proofs.Common.{◌≡◌, ◌-◌, suc, true, subst, arith}
 use Rattle.fm_elim.specs.declared.state.Next.{Next}
 use Rattle.fm_elim.specs.Elimination.{outcome_in, enough_steps}
 use Rattle.fm_elim.specs.machine.Tidying.{rows_of}
-use Rattle.fm_elim.specs.machine.Running.{IsRunning, IsNext}
+use Rattle.fm_elim.specs.machine.Running.{IsRunning, IsNext, NextStands}
 use Rattle.std.proofs.Common.{false}
 use Rattle.fm_elim.specs.machine.Logged.{LogsNext}
 use Rattle.fm_elim.proofs.LoggingLaws.{logs_both, ran_after}
@@ -16,6 +16,7 @@ loop-left-preserved c =
     record {
       running = subst (λ (x : Next). IsNext x (c.loop-left.left - 1) whole) c.in-Going.is
           (c.in_ok-next.ensures.next (c.loop-left.left - 1) whole (subst (λ k. IsRunning whole k c.loop-left.state) e c.loop-left.invariant.running));
+      tidy = subst NextStands c.in-Going.is c.in_ok-next.ensures.tidy;
       logs = logs_both false c.args.log.now c.loop-left.log c.step.new.log c.loop-left.state.rows.items c.in-Going.next.rows.items c.loop-left.invariant.logs s;
     }
 
@@ -26,8 +27,8 @@ returns-in-Ended-clause-ran c =
     subst (λ (x : Next). IsNext x (c.loop-left.left - 1) whole) c.in-Ended.is
     (c.in_ok-next.ensures.next (c.loop-left.left - 1) whole (subst (λ k. IsRunning whole k c.loop-left.state) e c.loop-left.invariant.running))
 
-pub step-requires : goal.step-requires
-step-requires c = c.loop-left.invariant.logs.logged
+pub step-requires-clause-logged : goal.step-requires-clause-logged
+step-requires-clause-logged c = c.loop-left.invariant.logs.logged
 
 pub returns-in-Ended-clause-logged : goal.returns-in-Ended-clause-logged
 returns-in-Ended-clause-logged c =

@@ -1,3 +1,6 @@
+use Rattle.fm_elim.specs.Steps.{halved}
+use Rattle.fm_elim.specs.machine.Tidying.{rows_of}
+use Rattle.fm_elim.proofs.StandingLaws.{step_standing}
 use Rattle.fm_elim.proofs.RunLaws.{equality_inside}
 use Rattle.fm_elim.proofs.RunLaws.{halved_equality}
 use Rattle.fm_elim.proofs.run.step_halve.Goals as goal
@@ -10,3 +13,6 @@ halve-requires-clause-equality c = λ live s. halved_equality c.args.state.rows.
 
 pub returns-clause-logged : goal.returns-clause-logged
 returns-clause-logged c = c.go_on.ensures.logged c.args.log.now c.halve.new.log c.in_ok-stepped.ensures.logged
+
+pub returns-clause-tidy : goal.returns-clause-tidy
+returns-clause-tidy c = c.go_on.ensures.tidy (step_standing c.in_ok-stepped.stepped (halved c.args.place (rows_of c.args.state.rows.items)) c.in_ok-stepped.ensures.rows)

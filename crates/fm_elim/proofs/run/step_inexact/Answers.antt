@@ -1,6 +1,10 @@
-use Rattle.std.proofs.Common.{◌∙◌}
+use Rattle.std.proofs.Common.{◌∙◌, pos}
 use Rattle.fm_elim.specs.machine.Sides.{sides_of, sums_of}
-use Rattle.fm_elim.specs.machine.Tidying.{rows_of, then_tidied}
+use Rattle.fm_elim.specs.machine.Tidying.{rows_of, AreStanding, then_tidied}
+use Rattle.std.specs.Ordering.{int_eq}
+use Rattle.cert_kit.specs.declared.row.PRow.{PRow}
+use Rattle.fm_elim.specs.Unknowns.{coeff_in}
+use Rattle.fm_elim.proofs.StandingLaws.{standing_filter, then_standing}
 use Rattle.fm_elim.proofs.RunLaws.{inexact_next}
 use Rattle.std.proofs.Common.{sym, subst}
 use Rattle.std.specs.List.{AllByRecursion}
@@ -34,3 +38,14 @@ eliminate-requires-clause-live_uppers c =
 
 pub returns-clause-logged : goal.returns-clause-logged
 returns-clause-logged c = c.go_on.ensures.logged c.args.log.now c.eliminate.new.log c.in_ok-stepped.ensures.logged
+
+pub eliminate-requires-clause-tidy : goal.eliminate-requires-clause-tidy
+eliminate-requires-clause-tidy c =
+    subst AreStanding (sym c.in_ok-parts.ensures.rows.without_is)
+    (standing_filter (λ (r : PRow). int_eq (coeff_in c.args.unknown r) (pos 0)) (rows_of c.args.state.rows.items) c.requires.tidy)
+
+pub returns-clause-tidy : goal.returns-clause-tidy
+returns-clause-tidy c =
+    let parts = c.in_ok-parts.parts in
+    c.go_on.ensures.tidy
+    (then_standing c.in_ok-stepped.stepped (sums_of c.args.unknown (rows_of parts.without.items) (sides_of c.deref.result.now) (sides_of c.deref-2.result.now)) c.in_ok-stepped.ensures.rows)

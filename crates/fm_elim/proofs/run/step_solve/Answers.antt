@@ -1,6 +1,7 @@
 use Rattle.std.proofs.Common.{◌∙◌, arith}
 use Rattle.fm_elim.specs.Steps.{solved}
 use Rattle.fm_elim.specs.machine.Tidying.{rows_of, then_tidied}
+use Rattle.fm_elim.proofs.StandingLaws.{then_standing}
 use Rattle.fm_elim.proofs.RunLaws.{given_inside, live_there, given_unit, solved_next}
 use Rattle.std.proofs.Common.{sym, subst}
 use Rattle.std.specs.List.{AllByRecursion}
@@ -51,3 +52,8 @@ solve-requires-clause-equal c =
 
 pub returns-clause-logged : goal.returns-clause-logged
 returns-clause-logged c = c.go_on.ensures.logged c.args.log.now c.solve.new.log c.in_ok-stepped.ensures.logged
+
+pub returns-clause-tidy : goal.returns-clause-tidy
+returns-clause-tidy c =
+    c.go_on.ensures.tidy
+    (then_standing c.in_ok-stepped.stepped (solved c.args.unknown c.remove-equality.result.row.poly (rows_of c.remove-equality.new.self.items)) c.in_ok-stepped.ensures.rows)

@@ -6,10 +6,11 @@ use Rattle.fm_elim.specs.machine.Tidying.{Feeds, IsTidying}
 use Rattle.fm_elim.proofs.FedLaws.{rest_found, rest_taken}
 use Rattle.std.proofs.Common.{refl, true, false, slice_get, Some}
 use Rattle.std.proofs.lemmas.Option.{slice_get_read}
-use Rattle.cert_kit.specs.Cut.{cut_of}
-use Rattle.fm_elim.specs.machine.Logging.{IsOrigin}
+use Rattle.fm_elim.specs.declared.source.Combination.TheVariants.{Given}
+use Rattle.fm_elim.specs.machine.Logging.{all_rows}
+use Rattle.fm_elim.proofs.PartLaws.{given_derives}
 use Rattle.fm_elim.proofs.GoingLaws.{begin}
-use Rattle.fm_elim.proofs.LoggingLaws.{logs_start, fresh_logged, logs_next, logs_contra}
+use Rattle.fm_elim.proofs.LoggingLaws.{logs_start, fresh_logged, logs_next, logs_contra, same_derives}
 use Rattle.fm_elim.proofs.run.tidy_rows.Goals as goal
 
 pub returns-then-branch-clause-rows : goal.returns-then-branch-clause-rows
@@ -32,12 +33,13 @@ loop-n-init c = record {
 pub take-requires-clause-logged : goal.take-requires-clause-logged
 take-requires-clause-logged c = c.loop-n.invariant.logs.logged
 
-pub take-requires-clause-origin : goal.take-requires-clause-origin
-take-requires-clause-origin c =
+pub take-requires-clause-derives : goal.take-requires-clause-derives
+take-requires-clause-derives c =
     let front = slice_get_read c.args.rows.now (length c.args.rows.now) c.loop-n.n c.index-rows-n.result refl (omega arith) c.index-rows-n.is in
     let first = subst (λ (rows : List PRow). slice_get rows c.loop-n.n ≡ Some c.index-rows-n.result) (sym c.requires.fresh) front in
     let now = c.loop-n.invariant.logs.grows.rows c.loop-n.n c.index-rows-n.result first in
-    subst (λ (r : PRow). IsOrigin c.loop-n.log (cut_of r) c.origin_of-origin.result) (sym c.in_ok-copy.ensures) (c.origin_of-origin.ensures c.loop-n.log now)
+    same_derives c.loop-n.log (Given c.loop-n.n) c.in_ok-copy.field-0 c.index-rows-n.result
+    (given_derives (all_rows c.loop-n.log) c.loop-n.n c.index-rows-n.result (record { here = now; fits = c.spread.ensures.fits })) c.in_ok-copy.ensures
 
 pub loop-n-preserved : goal.loop-n-preserved
 loop-n-preserved c =

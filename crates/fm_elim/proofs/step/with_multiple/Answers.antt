@@ -4,7 +4,7 @@ use Rattle.std.specs.Int.{w128}
 use Rattle.mm_poly.specs.declared.term.Term.{Term}
 use Rattle.mm_poly.specs.Poly.{plus, scaled}
 use Rattle.cert_kit.specs.declared.row.PRow.{PRow}
-use Rattle.fm_elim.proofs.ScaledLaws.{one_scaled}
+use Rattle.mm_poly.proofs.FiniteLaws.{one_scaled}
 use Rattle.fm_elim.proofs.step.with_multiple.Goals as goal
 
 pub returns : goal.returns

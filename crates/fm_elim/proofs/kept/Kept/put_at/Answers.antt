@@ -45,5 +45,6 @@ append-requires-clause-logged c =
       };
       fits = k.fits;
       cut = k.cut;
+      unknown = k.unknown;
       origin = k.origin;
     }

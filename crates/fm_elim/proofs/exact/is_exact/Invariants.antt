@@ -2,7 +2,7 @@ use Rattle.std.proofs.Common.{◌≡◌, drop, ◌&&◌}
 use Rattle.std.specs.List.{list_all}
 use Rattle.fm_elim.specs.machine.Choice.{is_at_most_1, is_at_least_minus_1}
 use Rattle.fm_elim.specs.machine.Tidying.{rows_of}
-use Rattle.fm_elim.proofs.choice.is_exact.Given as goal
+use Rattle.fm_elim.proofs.exact.is_exact.Given as goal
 
 abbrev pub invariant-loop-live : goal.invariant-loop-live
 invariant-loop-live l = record {

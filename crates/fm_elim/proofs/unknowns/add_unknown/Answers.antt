@@ -2,7 +2,7 @@ use Rattle.std.proofs.Common.{◌≡◌, ℕ, List, Some, None, ap, sym, ◌∙�
 use Rattle.std.specs.List.{insert}
 use Rattle.fm_elim.specs.machine.Choice.{place_from}
 use Rattle.fm_elim.proofs.ChoiceLaws.{none_there, put_there}
-use Rattle.fm_elim.proofs.choice.add_unknown.Goals as goal
+use Rattle.fm_elim.proofs.unknowns.add_unknown.Goals as goal
 
 pub insert-requires : goal.insert-requires
 insert-requires c =

@@ -1,7 +1,0 @@
-use Rattle.std.proofs.Common.{◌≡◌, drop}
-use Rattle.fm_elim.specs.Unknowns.{unknowns}
-use Rattle.fm_elim.specs.machine.Tidying.{rows_of}
-use Rattle.fm_elim.proofs.choice.unknowns.Given as goal
-
-abbrev pub invariant-loop-n : goal.invariant-loop-n
-invariant-loop-n l = l.found.items ≡ unknowns (rows_of (drop l.n l.rows))
