@@ -1,0 +1,11 @@
+pub mod ReadingLaws
+pub mod BoundLaws
+pub mod SearchLaws
+pub mod EdgeLaws
+pub mod PlacedLaws
+pub mod PointLaws
+pub mod VariableLaws
+pub mod WithinLaws
+pub mod FindLaws
+pub mod CubeLaws
+pub mod CubePointLaws

@@ -1,0 +1,4 @@
+pub mod Box
+pub mod Ends
+pub mod Cube
+pub mod machine
