@@ -1,0 +1,8 @@
+use Rattle.farkas_rows.proofs.FarkasLaws.{no_rational, no_solution}
+use Rattle.farkas_rows.proofs.law.farkas.Goals as goal
+
+pub returns-clause-rationals : goal.returns-clause-rationals
+returns-clause-rationals c = no_rational
+
+pub returns-clause-integers : goal.returns-clause-integers
+returns-clause-integers c = no_solution
