@@ -66,6 +66,10 @@ pub enum Kind {
     KeyName,
     /// How the elimination of these rows, parted by `; `, ends.
     Eliminate,
+    /// What comes of the box of the rows after the first `; ` in so many turns as stand before it.
+    Box,
+    /// The first assignment of the goal's cube.
+    Cube,
     /// How two rows, parted by `; `, compare.
     RowOrder,
 }
@@ -111,6 +115,8 @@ fn kind_of(word: &str) -> Option<Kind> {
         "key" => Some(Kind::Key),
         "key-name" => Some(Kind::KeyName),
         "eliminate" => Some(Kind::Eliminate),
+        "box" => Some(Kind::Box),
+        "cube" => Some(Kind::Cube),
         "row-order" => Some(Kind::RowOrder),
         _ => None,
     }

@@ -1,5 +1,6 @@
 ghost use Rattle.std.specs.Prelude.{IfOk};
 ghost use Rattle.std.specs.List.{AllByRecursion};
+ghost use Rattle.goal_ast.specs.Range.{IsInRange};
 ghost use Rattle.goal_ast.specs.Sorted.{IsWellFormed};
 ghost use Rattle.goal_sort.specs.Sorting.{IsReadable};
 ghost use Rattle.goal_text.specs.GoalsRead.{IsGoalOfFile, AreGoalsOfFile};
@@ -141,10 +142,18 @@ pub fn shown(alloc: Global, input: &str) -> Result<Vec<u8>, AllocError> {
         Ok(parts) => parts,
         Err(why) => return no_goal(alloc, why),
     };
-    if !in_range(&goal, &values) {
-        return Vec::from_slice(alloc, b"out of range");
+    if in_range(&goal, &values) {
+        assigned(alloc, &goal, &values)
+    } else {
+        Vec::from_slice(alloc, b"out of range")
     }
-    let lines = print_assignment(alloc, &goal, &values)?;
+}
+
+/// The lines of an assignment in range, so parted.
+pub fn assigned(alloc: Global, goal: &Goal, a: &Assignment) -> Result<Vec<u8>, AllocError>
+    requires { IsInRange goal.now a.now }
+{
+    let lines = print_assignment(alloc, goal, a)?;
     let mut answer = Vec::new(alloc);
     for line in lines.split(|b| *b == b'\n') {
         if !answer.is_empty() && !line.is_empty() {

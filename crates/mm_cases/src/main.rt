@@ -7,6 +7,7 @@
 #![tactic(auto)]
 
 mod algebra;
+mod boxes;
 mod case;
 mod check;
 mod clauses;
@@ -62,6 +63,8 @@ fn answer_to<R: Threads + Sync>(rt: &R, alloc: Global, case: &Case) -> Result<Ve
         Kind::Key => clauses::key_text(alloc, case.input),
         Kind::KeyName => clauses::name(alloc, case.input),
         Kind::Eliminate => elimination::end(alloc, case.input),
+        Kind::Box => boxes::end(alloc, case.input),
+        Kind::Cube => boxes::first(alloc, &input_of(alloc, case.input)?),
         Kind::RowOrder => clauses::row_order(alloc, case.input),
         Kind::Count => translated::count(alloc, &input_of(alloc, case.input)?),
     }
