@@ -50,7 +50,7 @@ pub content_divides : (ts : List Term) → DividesAll (content ts) (without_cons
 content_divides [] = tt
 content_divides (t ∷ ts) = divides_step t.coeff t.mono (content ts) (without_constant ts) (content_divides ts)
 
-divided_term : (g c m f v w : ℤ) → g *ℤ f ≡ c → w ≡ g *ℤ v → c *ℤ m +ℤ w ≡ g *ℤ (f *ℤ m +ℤ v)
+pub divided_term : (g c m f v w : ℤ) → g *ℤ f ≡ c → w ≡ g *ℤ v → c *ℤ m +ℤ w ≡ g *ℤ (f *ℤ m +ℤ v)
 divided_term g c m f v w e h =
     ap (λ z. z *ℤ m +ℤ w) (sym e) ∙ ap (λ z. z +ℤ w) (assoc g f m) ∙ ap (λ z. g *ℤ (f *ℤ m) +ℤ z) h ∙ sym (dist g (f *ℤ m) v)
 

@@ -51,7 +51,7 @@ pub fn join(alloc: Global, mut terms: Vec<Term>) -> Result<Vec<Term>, AllocError
     ensures { IfOk result (λ out. out.items ≡ plus terms.items []) }
 {
     terms.sort_by(|first, second| first.mono.order(&second.mono))?;
-    let mut out = Vec::new(alloc);
+    let mut out = Vec::with_capacity(alloc, terms.len())?;
     for term in terms {
         push_joined(&mut out, term)?;
     }

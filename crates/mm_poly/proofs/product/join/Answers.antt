@@ -11,7 +11,7 @@ use Rattle.mm_poly.proofs.product.join.Goals as goal
 pub loop-term-init : goal.loop-term-init
 loop-term-init c = begin _ _ _ _ c.requires.nonzero c.requires.small c.in_ok-sort_by.ensures.permutation
     (c.in_ok-sort_by.ensures.sorted comes_before monomials_order (answers_always _ _ _ (λ f a r g h. search rules)))
-    c.new-out.ensures.items c.into_iter-term-iterator.ensures.into_iter_gives.0
+    c.in_ok-out.ensures.items c.into_iter-term-iterator.ensures.into_iter_gives.0
 
 pub push_joined-requires-clause-order : goal.push_joined-requires-clause-order
 push_joined-requires-clause-order c = (next _ _ _ _ _ c.loop-term.invariant c.in-Some.ensures.steps.0).order
