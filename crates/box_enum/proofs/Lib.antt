@@ -4,7 +4,6 @@ pub mod SearchLaws
 pub mod EdgeLaws
 pub mod PlacedLaws
 pub mod PointLaws
-pub mod VariableLaws
 pub mod WithinLaws
 pub mod FindLaws
 pub mod CubeLaws

@@ -27,7 +27,7 @@ use Rattle.cert_kit.specs.Cut.{cut_of}
 use Rattle.cert_kit.specs.Variables.{variables_of, place_of, point_over}
 use Rattle.cert_kit.proofs.CutBackLaws.{cut_same}
 use Rattle.cert_kit.proofs.SolvingLaws.{rows_tested}
-use Rattle.box_enum.proofs.VariableLaws.{rows_local, found, place_within, occurs_there}
+use Rattle.cert_kit.proofs.VariableLaws.{rows_local, found, place_within, occurs_there}
 use Rattle.box_enum.specs.Box.{Side, is_multiple_of, is_shifted, lower_by, upper_by, better, low_of, high_of, side_of, sides_of, box_of, points_of, integers_from, count_of, not_below_0, solved_by, first_point, AreBetween}
 use Rattle.std.specs.Option.{option_map, option_or}
 use Rattle.std.proofs.lemmas.List.Folds.{find-append}

@@ -2,3 +2,4 @@ pub mod Reading
 pub mod Edges
 pub mod Searching
 pub mod Trying
+pub mod Putting

@@ -21,3 +21,6 @@ pub mod FrontLaws
 pub mod RowOrderLaws
 pub mod SolvingLaws
 pub mod OrderedLaws
+pub mod BoundedLaws
+pub mod FlatLaws
+pub mod VariableLaws

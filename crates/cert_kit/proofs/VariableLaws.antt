@@ -5,6 +5,7 @@ use Rattle.std.specs.Ordering.{nat_cmp}
 use Rattle.std.specs.FinMap.{nat_cmp-IsAntisymmetric}
 use Rattle.std.proofs.Common.{ap, ◌∙◌, sym, subst, arith}
 use Rattle.std.proofs.lemmas.Bool.{eqb-true}
+use Rattle.std.proofs.Math.Path.{ap₂}
 use Rattle.mm_num.specs.Power.{power}
 use Rattle.mm_poly.specs.declared.term.Term.{Term}
 use Rattle.mm_poly.specs.Mono.{mono_value}
@@ -12,7 +13,6 @@ use Rattle.mm_poly.specs.Poly.{value}
 use Rattle.cert_kit.specs.declared.row.PRow.{PRow}
 use Rattle.cert_kit.specs.Variables.{mono_variables, poly_variables, row_variables, variables_of, place_of}
 use Rattle.cert_kit.specs.Row.{compares_0, all_hold}
-use Rattle.goal_ast.proofs.CountingLaws.{both_same}
 use Rattle.cert_kit.proofs.OrderedLaws.{any_in_order}
 
 or_assoc : (a b c : Bool) → ((a || b) || c) ≡ (a || (b || c))
@@ -55,21 +55,21 @@ agree_first xs ys x y a v h = a v (in_first v xs ys h)
 pub agree_second : {A : Type 0} → (xs ys : List ℕ) (x y : ℕ → A) → AgreeOn (xs ++ ys) x y → AgreeOn ys x y
 agree_second xs ys x y a v h = a v (in_second v xs ys h)
 
-mono_local : (x y : ℕ → ℤ) (fs : List (ℕ × ℕ)) → AgreeOn (mono_variables fs) x y → mono_value x fs ≡ mono_value y fs
+pub mono_local : (x y : ℕ → ℤ) (fs : List (ℕ × ℕ)) → AgreeOn (mono_variables fs) x y → mono_value x fs ≡ mono_value y fs
 mono_local x y [] a = refl
-mono_local x y (f ∷ fs) a = both_same (λ m n. m *ℤ n) _ _ _ _
+mono_local x y (f ∷ fs) a = ap₂ (λ m n. m *ℤ n)
     (ap (λ z. power z f.1) (a f.0 (or_first (nat_eq f.0 f.0) (occurs f.0 (mono_variables fs)) (any_self f.0))))
     (mono_local x y fs (λ v h. a v (or_second (nat_eq v f.0) (occurs v (mono_variables fs)) h)))
 
-poly_local : (x y : ℕ → ℤ) (ts : List Term) → AgreeOn (poly_variables ts) x y → value x ts ≡ value y ts
+pub poly_local : (x y : ℕ → ℤ) (ts : List Term) → AgreeOn (poly_variables ts) x y → value x ts ≡ value y ts
 poly_local x y [] a = refl
-poly_local x y (t ∷ ts) a = both_same (λ m n. t.coeff *ℤ m +ℤ n) _ _ _ _
+poly_local x y (t ∷ ts) a = ap₂ (λ m n. t.coeff *ℤ m +ℤ n)
     (mono_local x y t.mono (agree_first (mono_variables t.mono) (poly_variables ts) x y a))
     (poly_local x y ts (agree_second (mono_variables t.mono) (poly_variables ts) x y a))
 
 pub rows_local : (x y : ℕ → ℤ) (rows : List PRow) → AgreeOn (row_variables rows) x y → all_hold x rows ≡ all_hold y rows
 rows_local x y [] a = refl
-rows_local x y (r ∷ rows) a = both_same (λ s t. s && t) _ _ _ _
+rows_local x y (r ∷ rows) a = ap₂ (λ s t. s && t)
     (ap (compares_0 r.op) (poly_local x y r.poly (agree_first (poly_variables r.poly) (row_variables rows) x y a)))
     (rows_local x y rows (agree_second (poly_variables r.poly) (row_variables rows) x y a))
 

@@ -16,6 +16,7 @@ mod law;
 mod maker;
 mod nesting;
 mod node;
+mod occurring;
 mod order;
 mod parts;
 mod row;
@@ -35,6 +36,7 @@ pub use maker::{
 };
 pub use nesting::depth;
 pub use node::{Fault, Node};
+pub use occurring::{push_variables, variables};
 pub use order::row_order;
 pub use row::{Clause, Op, PRow, false_row};
 pub use sink::ByteSink;

@@ -1,12 +1,12 @@
 ghost use Rattle.std.specs.Prelude.{◌≡◌, ◌++◌, IfOk, OnOk};
 ghost use Rattle.cert_kit.specs.Variables.{mono_variables, poly_variables, variables_of};
 
-use cert_kit::PRow;
+use crate::row::PRow;
 use mm_poly::Poly;
 use std::alloc::{AllocError, Global};
 
 /// The variables that occur in rows, rising.
-pub(crate) fn variables(alloc: Global, rows: &[PRow]) -> Result<Vec<u32>, AllocError>
+pub fn variables(alloc: Global, rows: &[PRow]) -> Result<Vec<u32>, AllocError>
     ensures { IfOk result (λ vars. vars.items ≡ variables_of rows.now) }
 {
     let mut vars = Vec::new(alloc);
@@ -18,7 +18,8 @@ pub(crate) fn variables(alloc: Global, rows: &[PRow]) -> Result<Vec<u32>, AllocE
     Ok(vars)
 }
 
-fn push_variables(vars: &mut Vec<u32>, poly: &Poly) -> Result<(), AllocError>
+/// The variables that occur in a polynomial, as they stand, pushed at the end.
+pub fn push_variables(vars: &mut Vec<u32>, poly: &Poly) -> Result<(), AllocError>
     ensures { OnOk result (vars.new.items ≡ vars.old.items ++ poly_variables poly.now) }
 {
     let terms = poly.terms();

@@ -16,7 +16,8 @@ use Rattle.clause_form.specs.Alternatives.{alternatives_of}
 use Rattle.cert_kit.specs.Variables.{variables_of, place_of}
 use Rattle.clause_form.specs.Clauses.{named, clauses_of, seen_by, SolvedBy, Refutes, AllUnsolvable}
 use Rattle.clause_form.proofs.AlternativeLaws.{some_holds, goal_tells}
-use Rattle.clause_form.proofs.NamingLaws.{or_second, named_back, named_through}
+use Rattle.cert_kit.proofs.VariableLaws.{or_second}
+use Rattle.clause_form.proofs.NamingLaws.{named_back, named_through}
 
 solved : (x : Point) (rows : List PRow) → all_hold x rows ≡ true → Solves x rows
 solved x rows = (rows_tested x rows).0

@@ -20,61 +20,7 @@ use Rattle.cert_kit.specs.Order.{row_cmp}
 use Rattle.cert_kit.specs.Row.{compares_0, row_holds, all_hold}
 use Rattle.cert_kit.proofs.RowOrderLaws.{row_exact}
 use Rattle.clause_form.specs.Clauses.{seen_by}
-use Rattle.clause_form.proofs.BoolLaws.{or_assoc}
-
--- ---- variables that occur
-
-abbrev pub occurs : ℕ → List ℕ → Bool
-occurs v vars = list_any (nat_eq v) vars
-
-pub any_append : {A : Type 0} → (test : A → Bool) (xs ys : List A) → list_any test (xs ++ ys) ≡ (list_any test xs || list_any test ys)
-any_append test [] ys = refl
-any_append test (x ∷ xs) ys = ap (λ s. test x || s) (any_append test xs ys) ∙ sym (or_assoc (test x) (list_any test xs) (list_any test ys))
-
-pub any_self : (v : ℕ) → nat_eq v v ≡ true
-any_self v = grind arith
-
-pub or_first : (s t : Bool) → s ≡ true → (s || t) ≡ true
-or_first true t h = refl
-or_first false t h = absurd (cc)
-
-pub or_second : (s t : Bool) → t ≡ true → (s || t) ≡ true
-or_second true t h = refl
-or_second false t h = h
-
-pub in_first : (v : ℕ) (xs ys : List ℕ) → occurs v xs ≡ true → occurs v (xs ++ ys) ≡ true
-in_first v xs ys h = any_append (nat_eq v) xs ys ∙ or_first (occurs v xs) (occurs v ys) h
-
-pub in_second : (v : ℕ) (xs ys : List ℕ) → occurs v ys ≡ true → occurs v (xs ++ ys) ≡ true
-in_second v xs ys h = any_append (nat_eq v) xs ys ∙ or_second (occurs v xs) (occurs v ys) h
-
--- two points, or two renumberings, that agree on these variables
-abbrev pub AgreeOn : {A : Type 0} → List ℕ → (ℕ → A) → (ℕ → A) → Type 0
-AgreeOn vars x y = (v : ℕ) → occurs v vars ≡ true → x v ≡ y v
-
-pub agree_first : {A : Type 0} → (xs ys : List ℕ) (x y : ℕ → A) → AgreeOn (xs ++ ys) x y → AgreeOn xs x y
-agree_first xs ys x y a v h = a v (in_first v xs ys h)
-
-pub agree_second : {A : Type 0} → (xs ys : List ℕ) (x y : ℕ → A) → AgreeOn (xs ++ ys) x y → AgreeOn ys x y
-agree_second xs ys x y a v h = a v (in_second v xs ys h)
-
-mono_local : (x y : Point) (fs : List (ℕ × ℕ)) → AgreeOn (mono_variables fs) x y → mono_value x fs ≡ mono_value y fs
-mono_local x y [] a = refl
-mono_local x y (f ∷ fs) a = both_same (λ m n. m *ℤ n) _ _ _ _
-    (ap (λ z. power z f.1) (a f.0 (or_first (nat_eq f.0 f.0) (occurs f.0 (mono_variables fs)) (any_self f.0))))
-    (mono_local x y fs (λ v h. a v (or_second (nat_eq v f.0) (occurs v (mono_variables fs)) h)))
-
-poly_local : (x y : Point) (ts : List Term) → AgreeOn (poly_variables ts) x y → value x ts ≡ value y ts
-poly_local x y [] a = refl
-poly_local x y (t ∷ ts) a = both_same (λ m n. t.coeff *ℤ m +ℤ n) _ _ _ _
-    (mono_local x y t.mono (agree_first (mono_variables t.mono) (poly_variables ts) x y a))
-    (poly_local x y ts (agree_second (mono_variables t.mono) (poly_variables ts) x y a))
-
-pub rows_local : (x y : Point) (rows : List PRow) → AgreeOn (row_variables rows) x y → all_hold x rows ≡ all_hold y rows
-rows_local x y [] a = refl
-rows_local x y (r ∷ rows) a = both_same (λ s t. s && t) _ _ _ _
-    (ap (compares_0 r.op) (poly_local x y r.poly (agree_first (poly_variables r.poly) (row_variables rows) x y a)))
-    (rows_local x y rows (agree_second (poly_variables r.poly) (row_variables rows) x y a))
+use Rattle.cert_kit.proofs.VariableLaws.{rows_local, found, occurs_there}
 
 -- ---- renumbered rows
 
@@ -86,23 +32,9 @@ renamed_hold y r (q ∷ rows) = both_same (λ s t. s && t) _ _ _ _ (ap (compares
 pub named_back : (y : Point) (vars : List ℕ) (rows : List PRow) → all_hold y (named_rows vars rows) ≡ all_hold (λ v. y (place_of vars v)) rows
 named_back y vars rows = all_in_order row_cmp (row_holds y) row_exact (map (renamed_row (place_of vars)) rows) ∙ renamed_hold y (place_of vars) rows
 
--- a variable stands at its place
-next_place : (w n v : ℕ) (vars : List ℕ) → slice_index_or vars n 0 ≡ v → slice_index_or (w ∷ vars) (1 + n) 0 ≡ v
-next_place w n v vars e = let s : suc n ≡ 1 + n = omega arith in subst (λ k. slice_index_or (w ∷ vars) k 0 ≡ v) s e
-
-pub found : (v : ℕ) (vars : List ℕ) → occurs v vars ≡ true → slice_index_or vars (place_of vars v) 0 ≡ v
-found v [] h = absurd (cc)
-found v (w ∷ vars) h = by_first (nat_eq v w) refl (λ k. found v vars k)
-  where
-    by_first : (b : Bool) → nat_eq v w ≡ b → (occurs v vars ≡ true → slice_index_or vars (place_of vars v) 0 ≡ v)
-        → slice_index_or (w ∷ vars) (place_of (w ∷ vars) v) 0 ≡ v
-    by_first true e f = subst (λ (c : Bool). slice_index_or (w ∷ vars) (cond (not c) (1 + place_of vars v) 0) 0 ≡ v) (sym e) (sym (eqb-true v w e))
-    by_first false e f = subst (λ (c : Bool). slice_index_or (w ∷ vars) (cond (not c) (1 + place_of vars v) 0) 0 ≡ v) (sym e)
-        (next_place w (place_of vars v) v vars (f (sym (ap (λ s. s || occurs v vars) e) ∙ h)))
-
 -- and the rows hold where the point, renumbered, solves the clause
 pub named_through : (x : Point) (rows : List PRow) → all_hold (seen_by (variables_of rows) x) (named_rows (variables_of rows) rows) ≡ all_hold x rows
 named_through x rows =
     named_back (seen_by (variables_of rows) x) (variables_of rows) rows
     ∙ rows_local (λ v. seen_by (variables_of rows) x (place_of (variables_of rows) v)) x rows
-    (λ v h. ap x (found v (variables_of rows) (any_in_order nat_cmp (nat_eq v) nat_cmp-IsAntisymmetric (row_variables rows) ∙ h)))
+    (λ v h. ap x (found v (variables_of rows) (occurs_there v rows h)))

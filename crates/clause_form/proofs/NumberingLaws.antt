@@ -32,8 +32,7 @@ use Rattle.clause_form.specs.Naming.{renamed_row, named_rows}
 use Rattle.clause_form.specs.Alternatives.{alternatives_of}
 use Rattle.clause_form.specs.Clauses.{named, clauses_of, IsNumbered}
 use Rattle.cert_kit.proofs.OrderedLaws.{in_order_rises, determined, all_with_element, any_in_order}
-use Rattle.clause_form.proofs.NamingLaws.{occurs, any_self, or_first, or_second, any_append, found}
-use Rattle.clause_form.proofs.RenumberingLaws.{place_within, occurs_there}
+use Rattle.cert_kit.proofs.VariableLaws.{occurs, any_self, or_first, or_second, any_append, found, place_within, occurs_there}
 use Rattle.clause_form.proofs.WellFormedRowLaws.{IsWell, IsWellRow, AreWellRows, AreWell, alternatives_well}
 
 -- ---- variables that are among some

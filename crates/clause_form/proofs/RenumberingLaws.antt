@@ -22,7 +22,7 @@ use Rattle.clause_form.specs.Naming.{renamed_row}
 use Rattle.clause_form.specs.Clauses.{named}
 use Rattle.clause_form.specs.machine.Numbering.{IsSetAt, Numbers}
 use Rattle.cert_kit.proofs.OrderedLaws.{in_order_rises, any_in_order}
-use Rattle.clause_form.proofs.NamingLaws.{AgreeOn, occurs, any_self, or_first, or_second, in_first, in_second, agree_first, agree_second, found}
+use Rattle.cert_kit.proofs.VariableLaws.{AgreeOn, occurs, any_self, or_first, or_second, in_first, in_second, agree_first, agree_second, found, place_within, occurs_there}
 
 -- ---- a renumbering counts for the variables alone
 
@@ -82,18 +82,6 @@ rows_below n (r ∷ rows) a = (
 )
 
 -- ---- the table of the variables that occur
-
-pub place_within : (v : ℕ) (vars : List ℕ) → occurs v vars ≡ true → place_of vars v < length vars
-place_within v [] h = absurd (cc)
-place_within v (w ∷ vars) h = by_first (nat_eq v w) refl (λ k. place_within v vars k)
-  where
-    by_first : (b : Bool) → nat_eq v w ≡ b → (occurs v vars ≡ true → place_of vars v < length vars) → place_of (w ∷ vars) v < length (w ∷ vars)
-    by_first true e f = subst (λ (c : Bool). cond (not c) (1 + place_of vars v) 0 < length (w ∷ vars)) (sym e) (omega arith)
-    by_first false e f = subst (λ (c : Bool). cond (not c) (1 + place_of vars v) 0 < length (w ∷ vars)) (sym e)
-        (let l = f (sym (ap (λ s. s || occurs v vars) e) ∙ h) in omega arith)
-
-pub occurs_there : (v : ℕ) (rows : List PRow) → occurs v (row_variables rows) ≡ true → occurs v (variables_of rows) ≡ true
-occurs_there v rows h = any_in_order nat_cmp (nat_eq v) nat_cmp-IsAntisymmetric (row_variables rows) ∙ h
 
 pub rows_have_places : (table vars : List ℕ) (n : ℕ) (rows : List PRow) → Numbers table vars n → n ≡ length vars → vars ≡ variables_of rows → RowsHavePlaces (length table) rows
 rows_have_places table vars n rows t e w = rows_below (length table) rows (λ v h.

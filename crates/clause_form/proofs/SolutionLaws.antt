@@ -15,8 +15,8 @@ use Rattle.cert_kit.specs.Variables.{variables_of, place_of}
 use Rattle.clause_form.specs.Naming.{named_rows}
 use Rattle.clause_form.specs.Clauses.{named, clauses_of, GivesBack, Refutes}
 use Rattle.clause_form.proofs.AlternativeLaws.{some_holds, goal_tells}
-use Rattle.clause_form.proofs.NamingLaws.{or_second, rows_local, found, named_back}
-use Rattle.clause_form.proofs.RenumberingLaws.{place_within, occurs_there}
+use Rattle.cert_kit.proofs.VariableLaws.{or_second, rows_local, found, place_within, occurs_there}
+use Rattle.clause_form.proofs.NamingLaws.{named_back}
 use Rattle.clause_form.proofs.ClauseLaws.{tested, hypotheses_hold, not_true}
 
 rows_back : (x y : Point) (rows : List PRow) → GivesBack (variables_of rows) y x → all_hold y (named_rows (variables_of rows) rows) ≡ all_hold x rows

@@ -6,15 +6,14 @@ ghost use Rattle.mm_poly.specs.Poly.{HasPlaces};
 ghost use Rattle.mm_poly.specs.Renaming.{by_table};
 ghost use Rattle.cert_kit.specs.declared.row.PRow.{PRow as Row};
 ghost use Rattle.cert_kit.specs.Order.{row_cmp};
-ghost use Rattle.cert_kit.specs.Variables.{in_order, mono_variables, poly_variables, row_variables, variables_of};
+ghost use Rattle.cert_kit.specs.Variables.{in_order, row_variables, variables_of};
 ghost use Rattle.clause_form.specs.Naming.{renamed_row};
 ghost use Rattle.clause_form.specs.Clauses.{named};
 ghost use Rattle.clause_form.specs.machine.Numbering.{IsSetAt, Numbers};
 ghost use Rattle.clause_form.specs.machine.Walk.{lent};
 
 use crate::named::Named;
-use cert_kit::{Clause, PRow};
-use mm_poly::Poly;
+use cert_kit::{Clause, PRow, push_variables};
 use sqlite_items::Items;
 use std::alloc::{AllocError, Global};
 use std::cmp::Ordering;
@@ -54,25 +53,6 @@ fn variables(alloc: Global, rows: &[&PRow]) -> Result<Vec<u32>, AllocError>
     vars.sort_unstable();
     vars.dedup();
     Ok(vars)
-}
-
-fn push_variables(vars: &mut Vec<u32>, poly: &Poly) -> Result<(), AllocError>
-    ensures { OnOk result (vars.new.items ≡ vars.old.items ++ poly_variables poly.now) }
-{
-    let terms = poly.terms();
-    for term in terms {
-        push_factors(vars, term.mono.factors())?;
-    }
-    Ok(())
-}
-
-fn push_factors(vars: &mut Vec<u32>, factors: &[(u32, u8)]) -> Result<(), AllocError>
-    ensures { OnOk result (vars.new.items ≡ vars.old.items ++ mono_variables factors.now) }
-{
-    for factor in factors {
-        vars.push(factor.0)?;
-    }
-    Ok(())
 }
 
 // Writes into a table, at the place of each of these variables, its place among them.

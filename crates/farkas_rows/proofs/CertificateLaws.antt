@@ -23,6 +23,7 @@ use Rattle.cert_kit.specs.Row.{is_false}
 use Rattle.cert_kit.specs.Acceptance.{with_row, IsGood}
 use Rattle.cert_kit.specs.Depth.{psatz_depth, steps_depth, close_level, cert_level, cert_depth, close_depth, close_in_range, cert_in_range, has_constants_in_range, close_has_constants_in_range, MakesCert}
 use Rattle.cert_kit.specs.Making.{numbers_of}
+use Rattle.cert_kit.proofs.FlatLaws.{done_depth, done_range}
 use Rattle.cert_kit.proofs.MakerLaws.{makes_rat, ends_with, good_done}
 use Rattle.farkas_rows.specs.Combining.{combined, IsNegative, rows_used, rows_named}
 use Rattle.farkas_rows.specs.machine.Parts.{StandFrom, IsExpression, IsCombination}
@@ -70,12 +71,6 @@ good_step rows ms e x h =
     let p = x.part rows (stand_all rows) in
     let r : PRow = record { poly = combined ms rows; op = p.op } in
     good_done rows (with_row rows r) (Rat e ∷ []) (makes_rat rows e r p.means p.within) (ends_with rows r ∙ negative_is_false (combined ms rows) p.op h)
-
-done_depth : close_depth Done ≡ 0
-done_depth = ap (fold-Close ℕ ℕ close_level cert_level) (sym rolls-Done) ∙ fold-roll-Close ℕ ℕ close_level cert_level Close-F.Done
-
-done_range : close_has_constants_in_range Done ≡ true
-done_range = ap (fold-Close Bool Bool close_in_range cert_in_range) (sym rolls-Done) ∙ fold-roll-Close Bool Bool close_in_range cert_in_range Close-F.Done
 
 one_deep : (rows : List PRow) (ms : List ℤ) (e : Psatz) → IsExpression 0 rows ms e → length rows < 2 ^ 32 → psatz_depth e ≤ 33
 one_deep rows ms e x l = x.shallow.depth 32 (omega arith)

@@ -25,10 +25,11 @@ use Rattle.cert_kit.specs.Row.{has_no_terms}
 use Rattle.cert_kit.specs.Meaning.{measure, sum_bounds, sum_op}
 use Rattle.cert_kit.specs.Depth.{psatz_level, psatz_depth, psatz_in_range, has_constants_in_range, is_constant_in_range}
 use Rattle.cert_kit.specs.Making.{numbers_step, numbers_of}
-use Rattle.cert_kit.proofs.FormLaws.{folds}
+use Rattle.cert_kit.proofs.BoundedLaws.{IsBounded, within_limits, from_one, add_bounded}
+use Rattle.cert_kit.proofs.FlatLaws.{IsFlat, flat_hyp, flat_const, flat_mulp, flat_mul, flat_add}
 use Rattle.farkas_rows.specs.Combining.{combined, IsMultiplier, norms, spreads, is_nothing, rows_used}
 use Rattle.farkas_rows.specs.machine.Parts.{CanCombine, product_by, times_row, multiple_of, sum_of, StandFrom, IsPart, IsShallow, IsCombination}
-use Rattle.farkas_rows.proofs.FormBoundLaws.{IsBounded, within_limits, from_one, add_bounded, times_bounded}
+use Rattle.farkas_rows.proofs.FormBoundLaws.{times_bounded}
 use Rattle.farkas_rows.proofs.CombinedLaws.{poly_combined, combined_parts, norms_parts, spreads_parts, used_parts, can_parts}
 
 -- 0 times a polynomial
@@ -53,40 +54,6 @@ something_is : (m : ℤ) (r : PRow) → is_nothing m r ≡ false → m ≢ pos 0
 something_is m r h e = contrary (is_nothing m r) (ap (λ k. int_eq k (pos 0) || has_no_terms r.poly) e) h
 
 -- depths and constants
-
-pub record IsFlat (d : ℕ) (e : Psatz) : Type 0 where
-  pub depth : psatz_depth e ≤ d
-  pub constants : has_constants_in_range e ≡ true
-
-depth_at : (d : Psatz-F Psatz) (e : Psatz) → roll-Psatz d ≡ e → psatz_depth e ≡ psatz_level (map-Psatz Psatz ℕ psatz_depth d)
-depth_at d e p = folds ℕ psatz_level d e p
-
-range_at : (d : Psatz-F Psatz) (e : Psatz) → roll-Psatz d ≡ e → has_constants_in_range e ≡ psatz_in_range (map-Psatz Psatz Bool has_constants_in_range d)
-range_at d e p = folds Bool psatz_in_range d e p
-
-flat_hyp : (n d : ℕ) → IsFlat d (Hyp n)
-flat_hyp n d = record { depth = (let e = depth_at (Psatz-F.Hyp n) (Hyp n) (rolls-Hyp n) in omega (arith, e)); constants = range_at (Psatz-F.Hyp n) (Hyp n) (rolls-Hyp n) }
-
-flat_const : (a : ℤ) → is_constant_in_range a ≡ true → IsFlat 0 (Const a)
-flat_const a h = record { depth = (let e = depth_at (Psatz-F.Const a) (Const a) (rolls-Const a) in omega (arith, e)); constants = range_at (Psatz-F.Const a) (Const a) (rolls-Const a) ∙ h }
-
-flat_mulp : (p : List Term) (e : Psatz) (d : ℕ) → IsFlat d e → IsFlat (d + 1) (MulPoly p e)
-flat_mulp p e d h = record {
-  depth = (let q = depth_at (Psatz-F.MulPoly p e) (MulPoly p e) (rolls-MulPoly p e) in let w = h.depth in omega (arith, q, w));
-  constants = range_at (Psatz-F.MulPoly p e) (MulPoly p e) (rolls-MulPoly p e) ∙ h.constants;
-}
-
-flat_mul : (e f : Psatz) (d : ℕ) → IsFlat d e → IsFlat d f → IsFlat (d + 1) (Mul e f)
-flat_mul e f d h k = record {
-  depth = (let q = depth_at (Psatz-F.Mul e f) (Mul e f) (rolls-Mul e f) in let w = h.depth in let v = k.depth in omega (arith, q, w, v));
-  constants = range_at (Psatz-F.Mul e f) (Mul e f) (rolls-Mul e f) ∙ and_from (has_constants_in_range e) (has_constants_in_range f) h.constants k.constants;
-}
-
-flat_add : (e f : Psatz) (d : ℕ) → IsFlat d e → IsFlat d f → IsFlat (d + 1) (Add e f)
-flat_add e f d h k = record {
-  depth = (let q = depth_at (Psatz-F.Add e f) (Add e f) (rolls-Add e f) in let w = h.depth in let v = k.depth in omega (arith, q, w, v));
-  constants = range_at (Psatz-F.Add e f) (Add e f) (rolls-Add e f) ∙ and_from (has_constants_in_range e) (has_constants_in_range f) h.constants k.constants;
-}
 
 in_range : (m : ℤ) → pos 0 ≤ℤ m → m ≢ pos 0 → unsigned_abs m < 2 ^ 126 → is_constant_in_range m ≡ true
 in_range (pos zero) s z l = absurd (z refl)

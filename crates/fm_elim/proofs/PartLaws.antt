@@ -22,6 +22,7 @@ use Rattle.cert_kit.specs.declared.bounds.Bounds.{Bounds}
 use Rattle.cert_kit.specs.Meaning.{meaning, measure, Measure, measure_of, own_bounds, no_bounds, product_bounds, sum_bounds, constant_bounds, are_within, product_op, sum_op, product_row, sum_row, multiple_row, constant_row, at_least_0, equal_to_0}
 use Rattle.cert_kit.proofs.FormLaws.{hyp_means, square_means, mulp_means, mul_means, add_means, const_means, hyp_measures, square_measures, mulp_measures, mul_measures, add_measures, const_measures}
 use Rattle.cert_kit.proofs.RowOrderLaws.{row_same}
+use Rattle.cert_kit.proofs.BoundedLaws.{IsBounded, within_limits, fits_within, hyp_bounded, from_one, constant_there, const_bounded, mul_bounded, add_bounded, mulp_bounded, nothing_bounded, times_bounds, same_bounds, same_bounded}
 use Rattle.fm_elim.specs.Unknowns.{coeff_in}
 use Rattle.fm_elim.specs.Steps.{has_room, combined, pair_has_room}
 use Rattle.fm_elim.specs.declared.source.Combination.{Combination}
@@ -34,110 +35,13 @@ pub record IsAt (rows : List PRow) (n : ℕ) (r : PRow) : Type 0 where
   pub here : slice_get rows n ≡ Some r
   pub fits : Fits r.poly
 
--- what an expression means, its bounds, and that each of its nodes is within the limits
-pub record IsPart (e : Psatz) (rows : List PRow) (r : PRow) (b : Bounds) : Type 0 where
-  pub means : meaning e rows ≡ Some r
-  pub bounds : (measure e rows).bounds ≡ b
-  pub within : (measure e rows).within ≡ true
-
-measured : (m : Measure) (c b : Bounds) (w : Bool) → m ≡ measure_of c w → c ≡ b → w ≡ true → are_within b ≡ true → (m.bounds ≡ b) × (m.within ≡ true)
-measured m c b w e f g h = (
-  ap (λ (x : Measure). x.bounds) e ∙ f,
-  ap (λ (x : Measure). x.within) e ∙ and_from w (are_within c) g (subst (λ (x : Bounds). are_within x ≡ true) (sym f) h),
-)
-
-most_test : (m n : ℕ) → m ≤ n → nat_le m n ≡ true
-most_test m n h = grind arith
-
 is_most : (m n : ℕ) → nat_le m n ≡ true → m ≤ n
 is_most m n h = grind arith
 
-pub within_limits : (b : Bounds) → b.norm < 2 ^ 126 → b.spread ≤ 65536 → b.degree ≤ 255 → are_within b ≡ true
-within_limits b n s d =
-    and_from (nat_lt b.norm (2 ^ 126)) (nat_le b.spread 65536 && nat_le b.degree 255) (below_test b.norm (2 ^ 126) n)
-    (and_from (nat_le b.spread 65536) (nat_le b.degree 255) (most_test b.spread 65536 s) (most_test b.degree 255 d))
-
-fits_within : (p : List Term) → Fits p → are_within (own_bounds p) ≡ true
-fits_within p h = within_limits (own_bounds p) h.norm h.spread h.degree
-
-pub hyp_part : (rows : List PRow) (n : ℕ) (r : PRow) → IsAt rows n r → IsPart (Hyp n) rows r (own_bounds r.poly)
-hyp_part rows n r a =
-    let e = hyp_measures n rows ∙ ap (λ (o : Option PRow). measure_of (option_map_or (λ (q : PRow). own_bounds q.poly) o no_bounds) true) a.here in
-    let m = measured (measure (Hyp n) rows) (own_bounds r.poly) (own_bounds r.poly) true e refl refl (fits_within r.poly a.fits) in
-    record { means = hyp_means n rows ∙ a.here; bounds = m.0; within = m.1 }
-
-from_one : (a : ℕ) → 1 ≤ a → int_le (pos 1) (pos a) ≡ true
-from_one a h = grind (arith, ints)
-
-constant_there : (a : ℕ) → int_le (pos 1) (pos a) ≡ true → constant_row (pos a) ≡ Some (at_least_0 (constant_of (pos a)))
-constant_there a e = rw e refl
-
-const_part : (rows : List PRow) (a : ℕ) → 1 ≤ a → a < 2 ^ 126 → IsPart (Const (pos a)) rows (at_least_0 (constant_of (pos a))) (constant_bounds (pos a))
-const_part rows a h l =
-    let m = measured (measure (Const (pos a)) rows) (constant_bounds (pos a)) (constant_bounds (pos a)) true (const_measures (pos a) rows) refl refl
-    (within_limits (constant_bounds (pos a)) l (omega arith) (omega arith)) in
-    record { means = const_means (pos a) rows ∙ constant_there a (from_one a h); bounds = m.0; within = m.1 }
-
-mul_part : (e f : Psatz) (rows : List PRow) (r s : PRow) (b c : Bounds) → IsPart e rows r b → IsPart f rows s c → are_within (product_bounds b c) ≡ true
-    → IsPart (Mul e f) rows (product_row r s) (product_bounds b c)
-mul_part e f rows r s b c p q h =
-    let same = ap (λ (x : Bounds). product_bounds x (measure f rows).bounds) p.bounds ∙ ap (λ (x : Bounds). product_bounds b x) q.bounds in
-    let m = measured (measure (Mul e f) rows) (product_bounds (measure e rows).bounds (measure f rows).bounds) (product_bounds b c) ((measure e rows).within && (measure f rows).within)
-    (mul_measures e f rows) same (and_from (measure e rows).within (measure f rows).within p.within q.within) h in
-    record {
-      means = mul_means e f rows ∙ ap (λ (o : Option PRow). o >>= λ a. meaning f rows >>= λ d. Some (product_row a d)) p.means
-          ∙ ap (λ (o : Option PRow). o >>= λ d. Some (product_row r d)) q.means;
-      bounds = m.0;
-      within = m.1;
-    }
-
-add_part : (e f : Psatz) (rows : List PRow) (r s : PRow) (b c : Bounds) → IsPart e rows r b → IsPart f rows s c → are_within (sum_bounds b c) ≡ true
-    → IsPart (Add e f) rows (sum_row r s) (sum_bounds b c)
-add_part e f rows r s b c p q h =
-    let same = ap (λ (x : Bounds). sum_bounds x (measure f rows).bounds) p.bounds ∙ ap (λ (x : Bounds). sum_bounds b x) q.bounds in
-    let m = measured (measure (Add e f) rows) (sum_bounds (measure e rows).bounds (measure f rows).bounds) (sum_bounds b c) ((measure e rows).within && (measure f rows).within)
-    (add_measures e f rows) same (and_from (measure e rows).within (measure f rows).within p.within q.within) h in
-    record {
-      means = add_means e f rows ∙ ap (λ (o : Option PRow). o >>= λ a. meaning f rows >>= λ d. Some (sum_row a d)) p.means
-          ∙ ap (λ (o : Option PRow). o >>= λ d. Some (sum_row r d)) q.means;
-      bounds = m.0;
-      within = m.1;
-    }
-
-equality_times : (k : List Term) (o : Op) (p : List Term) → o ≡ Eq → multiple_row k o p ≡ Some (equal_to_0 (times k p))
-equality_times k Eq p e = refl
-equality_times k Ge p e = absurd cc
-
-mulp_part : (k : List Term) (e : Psatz) (rows : List PRow) (r : PRow) (b : Bounds) → IsPart e rows r b → r.op ≡ Eq → are_within (product_bounds (own_bounds k) b) ≡ true
-    → IsPart (MulPoly k e) rows (equal_to_0 (times k r.poly)) (product_bounds (own_bounds k) b)
-mulp_part k e rows r b p o h =
-    let m = measured (measure (MulPoly k e) rows) (product_bounds (own_bounds k) (measure e rows).bounds) (product_bounds (own_bounds k) b) (measure e rows).within
-    (mulp_measures k e rows) (ap (λ (x : Bounds). product_bounds (own_bounds k) x) p.bounds) p.within h in
-    record {
-      means = mulp_means k e rows ∙ ap (λ (o : Option PRow). o >>= λ q. multiple_row k q.op q.poly) p.means ∙ equality_times k r.op r.poly o;
-      bounds = m.0;
-      within = m.1;
-    }
-
--- a square of nothing, by which an equality becomes an inequality
-nothing_part : (rows : List PRow) → IsPart (Square []) rows (at_least_0 []) no_bounds
-nothing_part rows =
-    let m = measured (measure (Square []) rows) (product_bounds (own_bounds []) (own_bounds [])) no_bounds true (square_measures [] rows) refl refl refl in
-    record { means = square_means [] rows; bounds = m.0; within = m.1 }
+pub hyp_part : (rows : List PRow) (n : ℕ) (r : PRow) → IsAt rows n r → IsBounded (Hyp n) rows r (own_bounds r.poly)
+hyp_part rows n r a = hyp_bounded rows n r a.here a.fits
 
 -- multiples
-
-abbrev pub times_bounds : ℕ → List Term → Bounds
-times_bounds a p = record { norm = a * norm p; spread = spread p; degree = degree p }
-
-same_bounds : (b c : Bounds) → b.norm ≡ c.norm → b.spread ≡ c.spread → b.degree ≡ c.degree → b ≡ c
-same_bounds b c n s d =
-    ap (λ k. let x : Bounds = record { norm = k; spread = b.spread; degree = b.degree } in x) n
-    ∙ ap (λ k. let x : Bounds = record { norm = c.norm; spread = k; degree = b.degree } in x) s
-    ∙ ap (λ k. let x : Bounds = record { norm = c.norm; spread = c.spread; degree = k } in x) d
-
-same_part : (e : Psatz) (rows : List PRow) (r s : PRow) (b c : Bounds) → IsPart e rows r b → r ≡ s → b ≡ c → IsPart e rows s c
-same_part e rows r s b c p f g = subst (λ (x : Bounds). IsPart e rows s x) g (subst (λ (q : PRow). IsPart e rows q b) f p)
 
 one_times : (n : ℕ) → n ≡ 1 * n
 one_times n = omega arith
@@ -162,20 +66,20 @@ limits_times : (a : ℕ) (p : List Term) → Fits p → a * norm p < 2 ^ 126 →
 limits_times a p f h = within_limits (times_bounds a p) h f.spread f.degree
 
 pub times_part : (rows : List PRow) (a n : ℕ) (r : PRow) → IsAt rows n r → r.op ≡ Ge → 1 ≤ a → a < 2 ^ 126 → a * norm r.poly < 2 ^ 126
-    → IsPart (times_row (pos a) n) rows (at_least_0 (scaled (pos a) r.poly)) (times_bounds a r.poly)
+    → IsBounded (times_row (pos a) n) rows (at_least_0 (scaled (pos a) r.poly)) (times_bounds a r.poly)
 times_part rows a n r i o h l w =
-    by_if (int_eq (pos a) (pos 1)) (Hyp n) (Mul (Const (pos a)) (Hyp n)) (λ e. IsPart e rows (at_least_0 (scaled (pos a) r.poly)) (times_bounds a r.poly))
+    by_if (int_eq (pos a) (pos 1)) (Hyp n) (Mul (Const (pos a)) (Hyp n)) (λ e. IsBounded e rows (at_least_0 (scaled (pos a) r.poly)) (times_bounds a r.poly))
     (λ e.
     let one = one_again a (is_one (pos a) e) in
-    same_part (Hyp n) rows r (at_least_0 (scaled (pos a) r.poly)) (own_bounds r.poly) (times_bounds a r.poly) (hyp_part rows n r i)
+    same_bounded (Hyp n) rows r (at_least_0 (scaled (pos a) r.poly)) (own_bounds r.poly) (times_bounds a r.poly) (hyp_part rows n r i)
     (row_same r (at_least_0 (scaled (pos a) r.poly)) (sym (ap (λ k. scaled (pos k) r.poly) one ∙ one_scaled r.poly i.fits.order)) o)
     (same_bounds (own_bounds r.poly) (times_bounds a r.poly) (one_times (norm r.poly) ∙ ap (λ k. k * norm r.poly) (sym one)) refl refl))
     (λ e.
     let made : product_bounds (constant_bounds (pos a)) (own_bounds r.poly) ≡ times_bounds a r.poly =
     same_bounds (product_bounds (constant_bounds (pos a)) (own_bounds r.poly)) (times_bounds a r.poly) refl (sym (one_times (spread r.poly))) (none_more (degree r.poly)) in
-    let b = mul_part (Const (pos a)) (Hyp n) rows (at_least_0 (constant_of (pos a))) r (constant_bounds (pos a)) (own_bounds r.poly) (const_part rows a h l) (hyp_part rows n r i)
+    let b = mul_bounded (Const (pos a)) (Hyp n) rows (at_least_0 (constant_of (pos a))) r (constant_bounds (pos a)) (own_bounds r.poly) (const_bounded rows a h l) (hyp_part rows n r i)
     (subst (λ (x : Bounds). are_within x ≡ true) (sym made) (limits_times a r.poly i.fits w)) in
-    same_part (Mul (Const (pos a)) (Hyp n)) rows (product_row (at_least_0 (constant_of (pos a))) r) (at_least_0 (scaled (pos a) r.poly))
+    same_bounded (Mul (Const (pos a)) (Hyp n)) rows (product_row (at_least_0 (constant_of (pos a))) r) (at_least_0 (scaled (pos a) r.poly))
     (product_bounds (constant_bounds (pos a)) (own_bounds r.poly)) (times_bounds a r.poly) b
     (row_same (product_row (at_least_0 (constant_of (pos a))) r) (at_least_0 (scaled (pos a) r.poly)) (times_constant (pos a) r.poly (not_zero a h) i.fits.order) (inequality_op r.op o)) made)
 
@@ -183,31 +87,31 @@ constant_own : (k : ℤ) → k ≢ pos 0 → own_bounds (constant_of k) ≡ cons
 constant_own k n = ap (λ (p : List Term). own_bounds p) (with_nonzero k [] [] n) ∙ same_bounds _ (constant_bounds k) (omega arith) refl refl
 
 mulp_by : (rows : List PRow) (k : ℤ) (n : ℕ) (r : PRow) → IsAt rows n r → r.op ≡ Eq → k ≢ pos 0 → unsigned_abs k * norm r.poly < 2 ^ 126
-    → IsPart (MulPoly (constant_of k) (Hyp n)) rows (equal_to_0 (scaled k r.poly)) (times_bounds (unsigned_abs k) r.poly)
+    → IsBounded (MulPoly (constant_of k) (Hyp n)) rows (equal_to_0 (scaled k r.poly)) (times_bounds (unsigned_abs k) r.poly)
 mulp_by rows k n r i o z w =
     let made : product_bounds (own_bounds (constant_of k)) (own_bounds r.poly) ≡ times_bounds (unsigned_abs k) r.poly =
     ap (λ (x : Bounds). product_bounds x (own_bounds r.poly)) (constant_own k z)
     ∙ same_bounds (product_bounds (constant_bounds k) (own_bounds r.poly)) (times_bounds (unsigned_abs k) r.poly) refl (sym (one_times (spread r.poly))) (none_more (degree r.poly)) in
-    let b = mulp_part (constant_of k) (Hyp n) rows r (own_bounds r.poly) (hyp_part rows n r i) o
+    let b = mulp_bounded (constant_of k) (Hyp n) rows r (own_bounds r.poly) (hyp_part rows n r i) o
     (subst (λ (x : Bounds). are_within x ≡ true) (sym made) (limits_times (unsigned_abs k) r.poly i.fits w)) in
-    same_part (MulPoly (constant_of k) (Hyp n)) rows (equal_to_0 (times (constant_of k) r.poly)) (equal_to_0 (scaled k r.poly))
+    same_bounded (MulPoly (constant_of k) (Hyp n)) rows (equal_to_0 (times (constant_of k) r.poly)) (equal_to_0 (scaled k r.poly))
     (product_bounds (own_bounds (constant_of k)) (own_bounds r.poly)) (times_bounds (unsigned_abs k) r.poly) b
     (ap (λ (p : List Term). equal_to_0 p) (times_constant k r.poly z i.fits.order)) made
 
 equality_part : (rows : List PRow) (k : ℤ) (n : ℕ) (r : PRow) → IsAt rows n r → r.op ≡ Eq → k ≢ pos 0 → unsigned_abs k * norm r.poly < 2 ^ 126
-    → IsPart (times_equality k n) rows (equal_to_0 (scaled k r.poly)) (times_bounds (unsigned_abs k) r.poly)
+    → IsBounded (times_equality k n) rows (equal_to_0 (scaled k r.poly)) (times_bounds (unsigned_abs k) r.poly)
 equality_part rows k n r i o z w =
-    by_if (int_eq k (pos 1)) (Hyp n) (MulPoly (constant_of k) (Hyp n)) (λ e. IsPart e rows (equal_to_0 (scaled k r.poly)) (times_bounds (unsigned_abs k) r.poly))
+    by_if (int_eq k (pos 1)) (Hyp n) (MulPoly (constant_of k) (Hyp n)) (λ e. IsBounded e rows (equal_to_0 (scaled k r.poly)) (times_bounds (unsigned_abs k) r.poly))
     (λ e.
     let one = is_one k e in
-    same_part (Hyp n) rows r (equal_to_0 (scaled k r.poly)) (own_bounds r.poly) (times_bounds (unsigned_abs k) r.poly) (hyp_part rows n r i)
+    same_bounded (Hyp n) rows r (equal_to_0 (scaled k r.poly)) (own_bounds r.poly) (times_bounds (unsigned_abs k) r.poly) (hyp_part rows n r i)
     (row_same r (equal_to_0 (scaled k r.poly)) (sym (ap (λ c. scaled c r.poly) one ∙ one_scaled r.poly i.fits.order)) o)
     (same_bounds (own_bounds r.poly) (times_bounds (unsigned_abs k) r.poly) (one_times (norm r.poly) ∙ ap (λ c. unsigned_abs c * norm r.poly) (sym one)) refl refl))
     (λ e. mulp_by rows k n r i o z w)
 
 -- sources
 
-derives : (rows : List PRow) (s : Combination) (r q : PRow) (b : Bounds) → IsSized s → IsPart (expression s) rows r b → r ≡ q → Derives rows s q
+derives : (rows : List PRow) (s : Combination) (r q : PRow) (b : Bounds) → IsSized s → IsBounded (expression s) rows r b → r ≡ q → Derives rows s q
 derives rows s r q b z p e = record { means = p.means ∙ ap (λ (x : PRow). Some x) e; within = p.within; sized = z }
 
 pub given_derives : (rows : List PRow) (n : ℕ) (r : PRow) → IsAt rows n r → Derives rows (Given n) r
@@ -250,7 +154,7 @@ pair_derives u rows n m l h i j o k b1 b2 a1 a2 e =
     let w = room_is a b l.poly h.poly e in
     let first = times_part rows a n l i o a1 a2 (less_first a b (norm l.poly) (norm h.poly) w.norms) in
     let second = times_part rows b m h j k b1 b2 (less_second a b (norm l.poly) (norm h.poly) w.norms) in
-    let both = add_part (times_row (pos a) n) (times_row (pos b) m) rows (at_least_0 (scaled (pos a) l.poly)) (at_least_0 (scaled (pos b) h.poly))
+    let both = add_bounded (times_row (pos a) n) (times_row (pos b) m) rows (at_least_0 (scaled (pos a) l.poly)) (at_least_0 (scaled (pos b) h.poly))
     (times_bounds a l.poly) (times_bounds b h.poly) first second
     (within_limits (sum_bounds (times_bounds a l.poly) (times_bounds b h.poly)) (sum_small a b (norm l.poly) (norm h.poly) w.norms) w.spreads
     (greater (degree l.poly) (degree h.poly) i.fits.degree j.fits.degree)) in
@@ -267,7 +171,7 @@ sum_derives rows n m k r p i j o z t w s =
     let c = unsigned_abs k in
     let norms : norm r.poly + unsigned_abs k * norm p.poly < 2 ^ 126 = omega (arith, turned (unsigned_abs k) (norm p.poly)) in
     let q = equality_part rows k m p j o z (less_second 1 c (norm r.poly) (norm p.poly) w) in
-    let both = add_part (Hyp n) (times_equality k m) rows r (equal_to_0 (scaled k p.poly)) (own_bounds r.poly) (times_bounds c p.poly) (hyp_part rows n r i) q
+    let both = add_bounded (Hyp n) (times_equality k m) rows r (equal_to_0 (scaled k p.poly)) (own_bounds r.poly) (times_bounds c p.poly) (hyp_part rows n r i) q
     (within_limits (sum_bounds (own_bounds r.poly) (times_bounds c p.poly)) norms s (greater (degree r.poly) (degree p.poly) i.fits.degree j.fits.degree)) in
     derives rows (Sum n k m) (sum_row r (equal_to_0 (scaled k p.poly))) (record { poly = plus r.poly (scaled k p.poly); op = r.op })
     (sum_bounds (own_bounds r.poly) (times_bounds c p.poly)) t both
@@ -277,11 +181,11 @@ sum_least : (o : Op) → sum_op o Ge ≡ Ge
 sum_least Ge = refl
 sum_least Eq = refl
 
-half_part : (e : Psatz) (rows : List PRow) (r : PRow) (b : Bounds) → IsPart e rows r b → IsPoly r.poly → are_within (sum_bounds b no_bounds) ≡ true
-    → IsPart (Add e (Square [])) rows (at_least_0 r.poly) (sum_bounds b no_bounds)
+half_part : (e : Psatz) (rows : List PRow) (r : PRow) (b : Bounds) → IsBounded e rows r b → IsPoly r.poly → are_within (sum_bounds b no_bounds) ≡ true
+    → IsBounded (Add e (Square [])) rows (at_least_0 r.poly) (sum_bounds b no_bounds)
 half_part e rows r b p a w =
-    same_part (Add e (Square [])) rows (sum_row r (at_least_0 [])) (at_least_0 r.poly) (sum_bounds b no_bounds) (sum_bounds b no_bounds)
-    (add_part e (Square []) rows r (at_least_0 []) b no_bounds p (nothing_part rows) w)
+    same_bounded (Add e (Square [])) rows (sum_row r (at_least_0 [])) (at_least_0 r.poly) (sum_bounds b no_bounds) (sum_bounds b no_bounds)
+    (add_bounded e (Square []) rows r (at_least_0 []) b no_bounds p (nothing_bounded rows) w)
     (row_same (sum_row r (at_least_0 [])) (at_least_0 r.poly) (plus_nil r.poly a) (sum_least r.op)) refl
 
 and_none : (b : Bounds) → are_within b ≡ true → are_within (sum_bounds b no_bounds) ≡ true

@@ -18,65 +18,24 @@ use Rattle.cert_kit.specs.declared.cert.Close.TheOpen.{Close-F}
 use Rattle.cert_kit.specs.declared.cert.Close.TheVariants.{Done, rolls-Done}
 use Rattle.cert_kit.specs.declared.cert.Close.TheFolds.{fold-Close, fold-roll-Close, fold_out-Cert}
 use Rattle.cert_kit.specs.Depth.{psatz_level, psatz_depth, step_depth, steps_depth, close_level, cert_level, cert_depth, close_depth, psatz_in_range, has_constants_in_range, step_in_range, steps_in_range, close_in_range, cert_in_range, close_has_constants_in_range, MakesCert}
-use Rattle.cert_kit.proofs.FormLaws.{folds}
+use Rattle.cert_kit.proofs.FlatLaws.{IsFlat, flat_hyp, flat_square, flat_const, flat_mulp, flat_mul, flat_add, flat_more, done_depth, done_range}
 use Rattle.fm_elim.specs.declared.source.Source.{Source}
 use Rattle.fm_elim.specs.declared.source.Combination.{Combination}
 use Rattle.fm_elim.specs.declared.source.Combination.TheVariants.{Given, Sum, Pair, Half, OtherHalf}
 use Rattle.fm_elim.specs.machine.Logging.{times_row, times_equality, expression, step_of, steps_of, IsFactor, IsSized, HasSizes}
 
--- at most this deep, with constants that are at least 1 and small
-pub record IsFlat (d : ℕ) (e : Psatz) : Type 0 where
-  pub depth : psatz_depth e ≤ d
-  pub constants : has_constants_in_range e ≡ true
-
-depth_at : (d : Psatz-F Psatz) (e : Psatz) → roll-Psatz d ≡ e → psatz_depth e ≡ psatz_level (map-Psatz Psatz ℕ psatz_depth d)
-depth_at d e p = folds ℕ psatz_level d e p
-
-range_at : (d : Psatz-F Psatz) (e : Psatz) → roll-Psatz d ≡ e → has_constants_in_range e ≡ psatz_in_range (map-Psatz Psatz Bool has_constants_in_range d)
-range_at d e p = folds Bool psatz_in_range d e p
-
-flat_hyp : (n : ℕ) → IsFlat 0 (Hyp n)
-flat_hyp n = record { depth = (let e = depth_at (Psatz-F.Hyp n) (Hyp n) (rolls-Hyp n) in omega (arith, e)); constants = range_at (Psatz-F.Hyp n) (Hyp n) (rolls-Hyp n) }
-
-flat_square : (p : List Term) → IsFlat 1 (Square p)
-flat_square p = record { depth = (let e = depth_at (Psatz-F.Square p) (Square p) (rolls-Square p) in omega (arith, e)); constants = range_at (Psatz-F.Square p) (Square p) (rolls-Square p) }
-
-flat_const : (a : ℤ) → IsFactor a → IsFlat 0 (Const a)
-flat_const a h = record { depth = (let e = depth_at (Psatz-F.Const a) (Const a) (rolls-Const a) in omega (arith, e)); constants = range_at (Psatz-F.Const a) (Const a) (rolls-Const a) ∙ h }
-
-flat_mulp : (p : List Term) (e : Psatz) (d : ℕ) → IsFlat d e → IsFlat (d + 1) (MulPoly p e)
-flat_mulp p e d h = record {
-  depth = (let q = depth_at (Psatz-F.MulPoly p e) (MulPoly p e) (rolls-MulPoly p e) in let w = h.depth in omega (arith, q, w));
-  constants = range_at (Psatz-F.MulPoly p e) (MulPoly p e) (rolls-MulPoly p e) ∙ h.constants;
-}
-
-flat_mul : (e f : Psatz) (d : ℕ) → IsFlat d e → IsFlat d f → IsFlat (d + 1) (Mul e f)
-flat_mul e f d h k = record {
-  depth = (let q = depth_at (Psatz-F.Mul e f) (Mul e f) (rolls-Mul e f) in let w = h.depth in let v = k.depth in omega (arith, q, w, v));
-  constants = range_at (Psatz-F.Mul e f) (Mul e f) (rolls-Mul e f) ∙ and_from (has_constants_in_range e) (has_constants_in_range f) h.constants k.constants;
-}
-
-flat_add : (e f : Psatz) (d : ℕ) → IsFlat d e → IsFlat d f → IsFlat (d + 1) (Add e f)
-flat_add e f d h k = record {
-  depth = (let q = depth_at (Psatz-F.Add e f) (Add e f) (rolls-Add e f) in let w = h.depth in let v = k.depth in omega (arith, q, w, v));
-  constants = range_at (Psatz-F.Add e f) (Add e f) (rolls-Add e f) ∙ and_from (has_constants_in_range e) (has_constants_in_range f) h.constants k.constants;
-}
-
-flat_more : (d : ℕ) (e : Psatz) → IsFlat d e → IsFlat (d + 1) e
-flat_more d e h = record { depth = (let w = h.depth in omega (arith, w)); constants = h.constants }
-
 flat_row : (a : ℤ) (n : ℕ) → IsFactor a → IsFlat 1 (times_row a n)
-flat_row a n h = by_if (int_eq a (pos 1)) (Hyp n) (Mul (Const a) (Hyp n)) (IsFlat 1) (λ e. flat_more 0 (Hyp n) (flat_hyp n)) (λ e. flat_mul (Const a) (Hyp n) 0 (flat_const a h) (flat_hyp n))
+flat_row a n h = by_if (int_eq a (pos 1)) (Hyp n) (Mul (Const a) (Hyp n)) (IsFlat 1) (λ e. flat_more 0 (Hyp n) (flat_hyp n 0)) (λ e. flat_mul (Const a) (Hyp n) 0 (flat_const a h) (flat_hyp n 0))
 
 flat_equality : (k : ℤ) (n : ℕ) → IsFlat 1 (times_equality k n)
-flat_equality k n = by_if (int_eq k (pos 1)) (Hyp n) (MulPoly (constant_of k) (Hyp n)) (IsFlat 1) (λ e. flat_more 0 (Hyp n) (flat_hyp n)) (λ e. flat_mulp (constant_of k) (Hyp n) 0 (flat_hyp n))
+flat_equality k n = by_if (int_eq k (pos 1)) (Hyp n) (MulPoly (constant_of k) (Hyp n)) (IsFlat 1) (λ e. flat_more 0 (Hyp n) (flat_hyp n 0)) (λ e. flat_mulp (constant_of k) (Hyp n) 0 (flat_hyp n 0))
 
 flat_source : (s : Combination) → IsSized s → IsFlat 2 (expression s)
-flat_source (Given n) h = flat_more 1 (Hyp n) (flat_more 0 (Hyp n) (flat_hyp n))
-flat_source (Sum n k m) h = flat_add (Hyp n) (times_equality k m) 1 (flat_more 0 (Hyp n) (flat_hyp n)) (flat_equality k m)
+flat_source (Given n) h = flat_more 1 (Hyp n) (flat_more 0 (Hyp n) (flat_hyp n 0))
+flat_source (Sum n k m) h = flat_add (Hyp n) (times_equality k m) 1 (flat_more 0 (Hyp n) (flat_hyp n 0)) (flat_equality k m)
 flat_source (Pair a l b m) h = flat_add (times_row a l) (times_row b m) 1 (flat_row a l h.0) (flat_row b m h.1)
-flat_source (Half n) h = flat_add (Hyp n) (Square []) 1 (flat_more 0 (Hyp n) (flat_hyp n)) (flat_square [])
-flat_source (OtherHalf n) h = flat_add (MulPoly (constant_of (negsuc 0)) (Hyp n)) (Square []) 1 (flat_mulp (constant_of (negsuc 0)) (Hyp n) 0 (flat_hyp n)) (flat_square [])
+flat_source (Half n) h = flat_add (Hyp n) (Square []) 1 (flat_more 0 (Hyp n) (flat_hyp n 0)) (flat_square [])
+flat_source (OtherHalf n) h = flat_add (MulPoly (constant_of (negsuc 0)) (Hyp n)) (Square []) 1 (flat_mulp (constant_of (negsuc 0)) (Hyp n) 0 (flat_hyp n 0)) (flat_square [])
 
 greatest : (a b : ℕ) → a ≤ 2 → b ≤ 2 → max a b ≤ 2
 greatest a b h k = omega arith
@@ -99,12 +58,6 @@ steps_sized : (sources : List Source) → AllByRecursion HasSizes sources → st
 steps_sized [] a = refl
 steps_sized (s ∷ sources) a =
     and_from (step_in_range (step_of s)) (steps_in_range (steps_of sources)) (range_of s ∙ (flat_source s.combination a.0).constants) (steps_sized sources a.1)
-
-done_depth : close_depth Done ≡ 0
-done_depth = ap (fold-Close ℕ ℕ close_level cert_level) (sym rolls-Done) ∙ fold-roll-Close ℕ ℕ close_level cert_level Close-F.Done
-
-done_range : close_has_constants_in_range Done ≡ true
-done_range = ap (fold-Close Bool Bool close_in_range cert_in_range) (sym rolls-Done) ∙ fold-roll-Close Bool Bool close_in_range cert_in_range Close-F.Done
 
 pub makes_cert : (sources : List Source) → AllByRecursion HasSizes sources → MakesCert (steps_of sources) Done
 makes_cert sources a = record {

@@ -1,6 +1,6 @@
 use Rattle.std.proofs.Common.{◌≡◌, ◌++◌, drop}
 use Rattle.cert_kit.specs.Variables.{mono_variables}
-use Rattle.box_enum.proofs.vars.push_factors.Given as goal
+use Rattle.cert_kit.proofs.occurring.push_factors.Given as goal
 
 -- what is out, and the factors that are left
 abbrev pub invariant-loop-factor : goal.invariant-loop-factor

@@ -1,6 +1,6 @@
 use Rattle.std.proofs.Common.{◌≡◌, ◌++◌, drop}
 use Rattle.cert_kit.specs.Variables.{poly_variables}
-use Rattle.box_enum.proofs.vars.push_variables.Given as goal
+use Rattle.cert_kit.proofs.occurring.push_variables.Given as goal
 
 -- what is out, and the terms that are left
 abbrev pub invariant-loop-term : goal.invariant-loop-term

@@ -1,6 +1,6 @@
 use Rattle.std.proofs.Common.{◌≡◌, ◌++◌, drop}
 use Rattle.cert_kit.specs.Variables.{row_variables}
-use Rattle.box_enum.proofs.vars.variables.Given as goal
+use Rattle.cert_kit.proofs.occurring.variables.Given as goal
 
 -- what is out, and the rows that are left
 abbrev pub invariant-loop-row : goal.invariant-loop-row
