@@ -3,3 +3,4 @@ pub mod Fitting
 pub mod Plan
 pub mod Walk
 pub mod Numbering
+pub mod Digesting

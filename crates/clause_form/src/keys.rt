@@ -3,8 +3,8 @@ ghost use Rattle.sha2.specs.Sha256.{sha256};
 ghost use Rattle.cert_kit.specs.Bytes.{rows_bytes};
 ghost use Rattle.clause_form.specs.Key.{hex_digit, hex_digit_at};
 
+use crate::digesting::digest_of_rows;
 use cert_kit::{Clause, one_key, rows_bytes};
-use sha2::{Digest, Sha256};
 use std::alloc::{AllocError, Global};
 
 /// The key of a clause with fewer than 2^32 rows: how many there are, and the bytes of each.
@@ -24,20 +24,14 @@ pub fn equal_keys(clause: &Clause, other: &Clause)
     one_key(clause.rows.as_slice(), other.rows.as_slice());
 }
 
-/// The name of a key: the first 16 hexadecimal digits of its SHA-256 (FIPS 180-4), in lower case.
-pub fn key_name(key: &[u8]) -> [u8; 16]
-    ensures { EachIndex result (λ k. slice_index result k ≡ hex_digit_at (sha256 key.now) k) }
+/// The name of a clause with fewer than 2^32 rows: the first 16 hexadecimal digits of its key's SHA-256 (FIPS 180-4), in lower
+/// case. The key isn't made: the digest takes its bytes piece by piece.
+pub fn clause_name(clause: &Clause) -> [u8; 16]
+    requires { length clause.now.rows < 2 ^ 32 }
+    ensures { EachIndex result (λ k. slice_index result k ≡ hex_digit_at (sha256 (rows_bytes clause.now.rows)) k) }
 {
-    let digest = digest_of(key);
+    let digest = digest_of_rows(clause.rows.as_slice());
     first_digits(&digest)
-}
-
-fn digest_of(key: &[u8]) -> [u8; 32]
-    ensures { result ≡ sha256 key.now }
-{
-    let mut hasher = Sha256::new();
-    hasher.update(key);
-    hasher.finalize()
 }
 
 fn first_digits(bytes: &[u8; 32]) -> [u8; 16]

@@ -7,6 +7,7 @@
 #![tactic(auto)]
 
 mod clause_list;
+mod digesting;
 mod fail;
 mod keys;
 mod law;
@@ -20,7 +21,7 @@ mod walk;
 
 pub use clause_list::{CLAUSE_LIMIT, clauses};
 pub use fail::ClauseFail;
-pub use keys::{equal_keys, key, key_name};
+pub use keys::{clause_name, equal_keys, key};
 pub use law::{bounds, numbering, refutation, solutions};
 pub use named::Named;
 pub use tally::{Tally, count, count_clauses};
