@@ -2,4 +2,3 @@ pub mod Reading
 pub mod Edges
 pub mod Searching
 pub mod Trying
-pub mod Putting

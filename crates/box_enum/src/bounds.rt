@@ -10,7 +10,6 @@ ghost use Rattle.box_enum.specs.Box.{better, box_of, bounds_of};
 ghost use Rattle.box_enum.specs.machine.Reading.{span_of, narrowed, side_between, side_in, sides_in};
 
 use crate::reading::{Reading, Span, read_cut};
-
 use cert_kit::{PRow, variables};
 use sqlite_items::Items;
 use std::alloc::{AllocError, Global};

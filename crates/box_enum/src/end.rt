@@ -1,13 +1,12 @@
-use cert_kit::Cert;
 use sqlite_items::Items;
 
-/// What comes of a box.
+/// What comes of the search of a box.
 #[derive(Debug, Drop)]
-pub enum BoxEnd {
-    /// No point of the box solves the clause, and so no integer point does: a certificate.
-    Cert(Cert),
+pub enum BoxSearch {
     /// The first point of the box that solves the clause, a value for each variable.
     Point(Items<i128>),
+    /// No point of the box solves the clause, and so no integer point does.
+    Nowhere,
     /// The box isn't small enough for the turns, or the rows aren't for certificates over it.
     TooWide,
 }

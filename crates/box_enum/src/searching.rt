@@ -8,7 +8,6 @@ ghost use Rattle.box_enum.specs.machine.Edges.{side_at, sides_at, IsSmallEdge};
 ghost use Rattle.box_enum.specs.machine.Searching.{IsWaiting, IsPassed, waits_hold, first_from, first_value, Finds};
 
 use crate::edge::{Edge, has_no_value, reach};
-
 use crate::waiting::{Waiting, all_waiting, by_due};
 use cert_kit::{Op, PRow, variables};
 use sqlite_items::Items;

@@ -4,17 +4,15 @@ ghost use Rattle.std.specs.Prelude.{◌≡◌, IfOk};
 ghost use Rattle.goal_serve.specs.KeyName.{key_name};
 
 use cert_kit::Clause;
-use clause_form::{key, key_name as name_of_key};
-use std::alloc::{AllocError, Global};
+use clause_form::clause_name;
+use std::alloc::AllocError;
 
-/// The name of a clause's key. `Err` where there is no memory; that is also the answer where a clause has 2^32 rows or
-/// more, and so no key.
-pub fn key_name(alloc: Global, clause: &Clause) -> Result<[u8; 16], AllocError>
+/// The name of a clause's key. `Err` where a clause has 2^32 rows or more, and so no key.
+pub fn key_name(clause: &Clause) -> Result<[u8; 16], AllocError>
     ensures { IfOk result (λ name. name ≡ key_name clause.now) }
 {
     if clause.rows.as_slice().len() > u32::MAX as usize {
         return Err(AllocError);
     }
-    let bytes = key(alloc, clause)?;
-    Ok(name_of_key(&bytes))
+    Ok(clause_name(clause))
 }

@@ -12,7 +12,7 @@ use clause_engine::Why;
 use goal_ast::{Goal, Mode, Name};
 use goal_print::push_goal;
 use itoa::Buffer;
-use std::alloc::{AllocError, Global};
+use std::alloc::AllocError;
 
 fn push(out: &mut Vec<u8>, text: &[u8]) -> Result<(), AllocError>
     ensures { OnOk result (out.new.items ≡ out.old.items ++ text.now) }
@@ -141,7 +141,6 @@ fn push_origin(out: &mut Vec<u8>, origin: Origin) -> Result<(), AllocError>
 
 // `Err` also where the clause has 2^32 rows or more.
 pub(crate) fn push_clause(
-    alloc: Global,
     out: &mut Vec<u8>,
     number: u64,
     clause: &Clause,
@@ -149,7 +148,7 @@ pub(crate) fn push_clause(
 ) -> Result<(), AllocError>
     ensures { OnOk result (out.new.items ≡ out.old.items ++ line_text (ClauseLine number (key_name clause.now) origin)) }
 {
-    let name = key_name(alloc, clause)?;
+    let name = key_name(clause)?;
     push(out, b"clause ")?;
     push_number(out, number)?;
     push(out, b" ")?;

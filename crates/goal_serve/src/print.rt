@@ -22,24 +22,19 @@ fn push_rows(out: &mut Vec<u8>, rows: &[PRow]) -> Result<(), AllocError>
     Ok(())
 }
 
-fn push_shown(
-    alloc: Global,
-    out: &mut Vec<u8>,
-    number: u64,
-    shown: &Shown,
-) -> Result<(), AllocError>
+fn push_shown(out: &mut Vec<u8>, number: u64, shown: &Shown) -> Result<(), AllocError>
     ensures { OnOk result (out.new.items ≡ out.old.items ++ lines_text (clause_lines number shown.now)) }
 {
-    push_clause(alloc, out, number, &shown.clause, shown.origin)?;
+    push_clause(out, number, &shown.clause, shown.origin)?;
     push_rows(out, shown.clause.rows.as_slice())?;
     push_cert_line(out, &shown.cert)
 }
 
-fn push_all_shown(alloc: Global, out: &mut Vec<u8>, shown: &[Shown]) -> Result<(), AllocError>
+fn push_all_shown(out: &mut Vec<u8>, shown: &[Shown]) -> Result<(), AllocError>
     ensures { OnOk result (out.new.items ≡ out.old.items ++ lines_text (shown_lines 0 shown.now)) }
 {
     for number in 0..shown.len() {
-        push_shown(alloc, out, number as u64, &shown[number])?;
+        push_shown(out, number as u64, &shown[number])?;
     }
     Ok(())
 }
@@ -53,19 +48,14 @@ fn push_values(out: &mut Vec<u8>, goal: &Goal, a: &Assignment) -> Result<(), All
 
 /// Appends what a report says of a goal after the goal's own line. `Err` where there is no memory; that is also the
 /// answer where a clause has 2^32 rows or more.
-pub fn push_answer(
-    alloc: Global,
-    out: &mut Vec<u8>,
-    goal: &Goal,
-    answer: &Answer,
-) -> Result<(), AllocError>
+pub fn push_answer(out: &mut Vec<u8>, goal: &Goal, answer: &Answer) -> Result<(), AllocError>
     requires { IsPrintable goal.now answer.now }
     ensures { OnOk result (out.new.items ≡ out.old.items ++ lines_text (reply_lines goal.now answer.now)) }
 {
     match answer {
         Answer::Proved(shown) => {
             push_proved(out, shown.as_slice().len() as u64)?;
-            push_all_shown(alloc, out, shown.as_slice())
+            push_all_shown(out, shown.as_slice())
         }
         Answer::Refuted(a) => {
             push_refuted(out)?;
@@ -84,6 +74,6 @@ pub fn print_answer(alloc: Global, goal: &Goal, answer: &Answer) -> Result<Vec<u
     ensures { IfOk result (λ text. text.items ≡ lines_text (reply_lines goal.now answer.now)) }
 {
     let mut out = Vec::new(alloc);
-    push_answer(alloc, &mut out, goal, answer)?;
+    push_answer(&mut out, goal, answer)?;
     Ok(out)
 }

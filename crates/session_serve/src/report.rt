@@ -33,7 +33,7 @@ fn push_goal(
     match sorts(alloc, raw) {
         Ok(goal) => {
             push_asked(out, number, &goal)?;
-            push_answer(alloc, out, &goal, answer)
+            push_answer(out, &goal, answer)
         }
         Err(SortFail::IllSorted { at }) => {
             push_unsorted(out, number, raw.mode)?;
