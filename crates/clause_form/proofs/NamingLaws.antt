@@ -1,20 +1,12 @@
 -- Renumbered rows hold at a point exactly where the rows hold at the point that is seen through the renumbering.
-use Rattle.std.specs.Prelude.{◌≡◌, ℕ, suc, ◌+◌, ◌+ℤ◌, ◌*ℤ◌, List, [], ◌∷◌, ◌++◌, map, Bool, true, false, not, cond, ◌&&◌, ◌||◌, nat_eq, slice_index_or, refl}
-use Rattle.std.specs.List.{list_any, list_all}
-use Rattle.std.specs.Ordering.{nat_cmp}
-use Rattle.std.specs.FinMap.{nat_cmp-IsAntisymmetric}
-use Rattle.std.proofs.Common.{ap, ◌∙◌, sym, subst, arith}
-use Rattle.std.proofs.lemmas.Bool.{eqb-true}
-use Rattle.mm_num.specs.Power.{power}
-use Rattle.mm_poly.specs.declared.term.Term.{Term}
-use Rattle.mm_poly.specs.Mono.{mono_value}
-use Rattle.mm_poly.specs.Poly.{value}
+use Rattle.std.specs.Prelude.{◌≡◌, ℕ, List, [], ◌∷◌, map, ◌&&◌, refl}
+use Rattle.std.proofs.Common.{ap, ◌∙◌}
 use Rattle.mm_poly.proofs.RenamingLaws.{value_renamed}
 use Rattle.cert_kit.specs.declared.row.PRow.{PRow}
 use Rattle.goal_ast.specs.Truth.{Point}
 use Rattle.goal_ast.proofs.CountingLaws.{both_same}
-use Rattle.cert_kit.specs.Variables.{mono_variables, poly_variables, row_variables, variables_of, place_of}
-use Rattle.cert_kit.proofs.OrderedLaws.{all_in_order, any_in_order}
+use Rattle.cert_kit.specs.Variables.{variables_of, place_of}
+use Rattle.cert_kit.proofs.OrderedLaws.{all_in_order}
 use Rattle.clause_form.specs.Naming.{renamed_row, named_rows}
 use Rattle.cert_kit.specs.Order.{row_cmp}
 use Rattle.cert_kit.specs.Row.{compares_0, row_holds, all_hold}

@@ -1,10 +1,9 @@
 -- Rows are renumbered by what their own variables become, so a table that has those alone serves.
-use Rattle.std.specs.Prelude.{◌≡◌, ℕ, ◌+◌, ◌<◌, ◌≤◌, ◌≢◌, List, [], ◌∷◌, ◌++◌, map, length, Bool, true, false, cond, not, ◌||◌, nat_eq, slice_index, refl}
+use Rattle.std.specs.Prelude.{◌≡◌, ℕ, ◌+◌, ◌<◌, ◌≤◌, ◌≢◌, List, [], ◌∷◌, ◌++◌, map, length, true, nat_eq, slice_index, refl}
 use Rattle.std.specs.List.{AllByRecursion}
 use Rattle.std.specs.List.Sorted.{IsStrictlySortedBy}
 use Rattle.std.specs.Ordering.{nat_cmp}
 use Rattle.std.specs.Cmp.{nat_cmp_total}
-use Rattle.std.specs.FinMap.{nat_cmp-IsAntisymmetric}
 use Rattle.std.proofs.Common.{get_or, ◌^◌, ap, ◌∙◌, sym, subst, arith, inl, inr}
 use Rattle.std.proofs.lemmas.Bool.{cases_lt}
 use Rattle.std.proofs.lemmas.List.Elements.{All-from_get_or}
@@ -21,7 +20,7 @@ use Rattle.cert_kit.specs.Variables.{in_order, mono_variables, poly_variables, r
 use Rattle.clause_form.specs.Naming.{renamed_row}
 use Rattle.clause_form.specs.Clauses.{named}
 use Rattle.clause_form.specs.machine.Numbering.{IsSetAt, Numbers}
-use Rattle.cert_kit.proofs.OrderedLaws.{in_order_rises, any_in_order}
+use Rattle.cert_kit.proofs.OrderedLaws.{in_order_rises}
 use Rattle.cert_kit.proofs.VariableLaws.{AgreeOn, occurs, any_self, or_first, or_second, in_first, in_second, agree_first, agree_second, found, place_within, occurs_there}
 
 -- ---- a renumbering counts for the variables alone

@@ -1,11 +1,10 @@
 -- Rows that are sorted, each once.
-use Rattle.std.specs.Prelude.{◌≡◌, ℕ, nat_eq, Bool, List, [], ◌++◌, refl}
+use Rattle.std.specs.Prelude.{◌≡◌, Bool, List, refl}
 use Rattle.std.specs.List.{dedup}
-use Rattle.std.specs.List.Sorted.{IsPermutation, IsSorted, IsSortedBy}
-use Rattle.std.specs.Ordering.{nat_cmp, eq_by_cmp, is_lt}
-use Rattle.std.specs.Cmp.{IsStrictWeakOrder, nat_cmp_total}
-use Rattle.std.specs.FinMap.{nat_cmp-IsAntisymmetric}
-use Rattle.std.proofs.Common.{append-nil, arith, ap, ◌∙◌, sym}
+use Rattle.std.specs.List.Sorted.{IsPermutation, IsSortedBy}
+use Rattle.std.specs.Ordering.{eq_by_cmp, is_lt}
+use Rattle.std.specs.Cmp.{IsStrictWeakOrder}
+use Rattle.std.proofs.Common.{◌∙◌}
 use Rattle.std.proofs.lemmas.List.Sorted.{ranks_by}
 use Rattle.cert_kit.specs.declared.row.PRow.{PRow}
 use Rattle.cert_kit.specs.Order.{row_cmp}
