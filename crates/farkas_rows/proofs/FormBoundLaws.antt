@@ -20,7 +20,6 @@ use Rattle.cert_kit.specs.declared.cert.Psatz.{Psatz}
 use Rattle.cert_kit.specs.declared.cert.Psatz.TheVariants.{Hyp, MulPoly, Mul, Add, Const}
 use Rattle.cert_kit.specs.declared.bounds.Bounds.{Bounds}
 use Rattle.cert_kit.specs.Meaning.{meaning, measure, Measure, measure_of, own_bounds, no_bounds, product_bounds, sum_bounds, constant_bounds, are_within, product_op, product_row, sum_row, multiple_row, constant_row, at_least_0, equal_to_0}
-use Rattle.cert_kit.proofs.FormLaws.{hyp_means, mulp_means, mul_means, add_means, const_means, hyp_measures, mulp_measures, mul_measures, add_measures, const_measures}
 use Rattle.cert_kit.proofs.RowOrderLaws.{row_same}
 use Rattle.cert_kit.proofs.BoundedLaws.{IsBounded, within_limits, hyp_bounded, from_one, const_bounded, mul_bounded, mulp_bounded, times_bounds, same_bounds, same_bounded}
 use Rattle.farkas_rows.specs.Combining.{IsMultiplier}

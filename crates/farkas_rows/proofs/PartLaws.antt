@@ -25,6 +25,7 @@ use Rattle.cert_kit.specs.Row.{has_no_terms}
 use Rattle.cert_kit.specs.Meaning.{measure, sum_bounds, sum_op}
 use Rattle.cert_kit.specs.Depth.{psatz_level, psatz_depth, psatz_in_range, has_constants_in_range, is_constant_in_range}
 use Rattle.cert_kit.specs.Making.{numbers_step, numbers_of}
+use Rattle.cert_kit.proofs.FormLaws.{folds}
 use Rattle.cert_kit.proofs.BoundedLaws.{IsBounded, within_limits, from_one, add_bounded}
 use Rattle.cert_kit.proofs.FlatLaws.{IsFlat, flat_hyp, flat_const, flat_mulp, flat_mul, flat_add}
 use Rattle.farkas_rows.specs.Combining.{combined, IsMultiplier, norms, spreads, is_nothing, rows_used}

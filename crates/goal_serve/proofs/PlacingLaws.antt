@@ -17,8 +17,7 @@ use Rattle.mm_poly.proofs.FactorLaws.{less_is}
 use Rattle.goal_ast.specs.Truth.{Point}
 use Rattle.cert_kit.specs.Variables.{place_of}
 use Rattle.clause_form.specs.Clauses.{GivesBack}
-use Rattle.clause_form.proofs.NamingLaws.{occurs, any_self, or_second, found}
-use Rattle.clause_form.proofs.RenumberingLaws.{place_within}
+use Rattle.cert_kit.proofs.VariableLaws.{occurs, any_self, or_second, found, place_within}
 use Rattle.goal_serve.specs.Answering.{placed}
 
 -- ---- a variable at its place
