@@ -72,20 +72,20 @@ pub fn clause_of(alloc: Global, rows: &str) -> Result<Option<Clause>, AllocError
     Ok(read(alloc, text.as_bytes())?.map(|check| check.0))
 }
 
-// The bytes of the clause's key and their name, if the rows are a clause and fewer than 2^32.
-fn key_of(alloc: Global, rows: &str) -> Result<Option<(Vec<u8>, [u8; 16])>, AllocError> {
+// The bytes of the clause's key, if the rows are a clause and fewer than 2^32.
+fn key_of(alloc: Global, rows: &str) -> Result<Option<Vec<u8>>, AllocError> {
     let Some(clause) = clause_of(alloc, rows)? else {
         return Ok(None);
     };
     if clause.rows.len() > u32::MAX as usize {
         return Ok(None);
     }
-    Ok(Some((key(alloc, &clause)?, clause_name(&clause))))
+    Ok(Some(key(alloc, &clause)?))
 }
 
 /// The key of the clause of these rows, in hexadecimal.
 pub fn key_text(alloc: Global, rows: &str) -> Result<Vec<u8>, AllocError> {
-    let Some((bytes, _)) = key_of(alloc, rows)? else {
+    let Some(bytes) = key_of(alloc, rows)? else {
         return Vec::from_slice(alloc, b"no rows");
     };
     let mut out = String::new(alloc);
@@ -97,10 +97,14 @@ pub fn key_text(alloc: Global, rows: &str) -> Result<Vec<u8>, AllocError> {
 
 /// The name of the key of the clause of these rows, after the number of the key's bytes.
 pub fn name(alloc: Global, rows: &str) -> Result<Vec<u8>, AllocError> {
-    let Some((bytes, name)) = key_of(alloc, rows)? else {
+    let Some(clause) = clause_of(alloc, rows)? else {
         return Vec::from_slice(alloc, b"no rows");
     };
-    let length = bytes.len();
+    if clause.rows.len() > u32::MAX as usize {
+        return Vec::from_slice(alloc, b"no rows");
+    }
+    let length = key(alloc, &clause)?.len();
+    let name = clause_name(&clause);
     let mut out = format!(in alloc; "{length} ")?.into_bytes();
     out.extend_from_slice(&name)?;
     Ok(out)
