@@ -22,10 +22,11 @@ use Rattle.box_enum.specs.declared.bounds.Bounds.{Bounds}
 use Rattle.std.specs.Int.{int_min, int_max}
 use Rattle.box_enum.specs.Box.{Side, better, low_of, high_of, sides_of, box_of, bounds_of}
 use Rattle.box_enum.specs.machine.Reading.{span_of, narrowed, side_between, side_in, sides_in, high_read, IsReading}
+use Rattle.box_enum.proofs.PlainLaws.{number_itself, number_not}
 
 -- ---- one variable's span is bettered
 
-above_all : (v : ℕ) (vars : List ℕ) → AllByRecursion (λ w. nat_cmp v w ≡ Less) vars → AllByRecursion (λ w. v ≡ w → ⊥) vars
+pub above_all : (v : ℕ) (vars : List ℕ) → AllByRecursion (λ w. nat_cmp v w ≡ Less) vars → AllByRecursion (λ w. v ≡ w → ⊥) vars
 above_all v [] a = tt
 above_all v (w ∷ ws) a = (λ e. let l = less_is v w a.0 in absurd (omega arith), above_all v ws a.1)
 
@@ -34,7 +35,7 @@ pub not_among : (f g : ℕ → Span) (v : ℕ) (vars : List ℕ) → ((x : ℕ) 
 not_among f g v [] h a = refl
 not_among f g v (w ∷ ws) h a = ap (λ (s : Span). s ∷ map f ws) (sym (h w a.0)) ∙ ap (λ (ss : List Span). g w ∷ ss) (not_among f g v ws h a.1)
 
-place_above : (w v : ℕ) (ws : List ℕ) (p : ℕ) → AllByRecursion (λ x. nat_cmp w x ≡ Less) ws → p < length ws → get_or ws p 0 ≡ v → w < v
+pub place_above : (w v : ℕ) (ws : List ℕ) (p : ℕ) → AllByRecursion (λ x. nat_cmp w x ≡ Less) ws → p < length ws → get_or ws p 0 ≡ v → w < v
 place_above w v [] p a h e = absurd (omega arith)
 place_above w v (x ∷ xs) zero a h e = let l = less_is w x a.0 in omega (arith, e)
 place_above w v (x ∷ xs) (suc p) a h e = place_above w v xs p a.1 (omega arith) e
@@ -51,18 +52,12 @@ set_there f g v (w ∷ ws) (suc p) h s l e =
     ap (λ (k : Span). k ∷ set (map f ws) p (g v)) (sym (h w (λ q. absurd (omega arith))))
     ∙ ap (λ (ss : List Span). g w ∷ ss) (set_there f g v ws p h s.1 (omega arith) e)
 
-number_not : (x v : ℕ) → (v ≡ x → ⊥) → nat_eq v x ≡ false
-number_not x v n = grind arith
-
-number_same : (v : ℕ) → nat_eq v v ≡ true
-number_same v = grind arith
-
 -- what was read says nothing of other variables
 pub elsewhere : (r : Reading) (s : Span) (x : ℕ) → (r.variable ≡ x → ⊥) → narrowed (Some r) x s ≡ s
 elsewhere r s x n = rw (number_not x r.variable n) refl
 
 pub here : (r : Reading) (s : Span) → narrowed (Some r) r.variable s ≡ record { low = better int_max r.low s.low; high = better int_min r.high s.high }
-here r s = rw (number_same r.variable) refl
+here r s = rw (number_itself r.variable) refl
 
 -- ---- one more row in front
 
@@ -164,11 +159,11 @@ set_span f r vars spans p s l k rising h e is low_is high_is m =
     mapped (v ∷ vs) zero l = refl
     mapped (v ∷ vs) (suc k) l = mapped vs k (omega arith)
 
-not_in : (v : ℕ) (vars : List ℕ) → ((k : ℕ) → k < length vars → get_or vars k 0 ≡ v → ⊥) → AllByRecursion (λ w. v ≡ w → ⊥) vars
+pub not_in : (v : ℕ) (vars : List ℕ) → ((k : ℕ) → k < length vars → get_or vars k 0 ≡ v → ⊥) → AllByRecursion (λ w. v ≡ w → ⊥) vars
 not_in v [] h = tt
 not_in v (w ∷ ws) h = ((λ e. h 0 (omega arith) (sym e)), not_in v ws (λ k l e. h (suc k) (omega arith) e))
 
-by_lt : (k j : ℕ) (b : Bool) → nat_lt k j ≡ b → (k < j) ⊎ (j ≤ k)
+pub by_lt : (k j : ℕ) (b : Bool) → nat_lt k j ≡ b → (k < j) ⊎ (j ≤ k)
 by_lt k j true e = inl (grind arith)
 by_lt k j false e = inr (grind arith)
 
@@ -237,7 +232,7 @@ push_span out new s vars i h e f k =
 pub place_found : (vars : List ℕ) (v i : ℕ) → IsStrictlySortedBy nat_cmp vars → i < length vars → get_or vars i 0 ≡ v → i ≡ place_of vars v
 unfolding IsStrictlySortedBy
 place_found [] v i s h e = absurd (omega arith)
-place_found (w ∷ ws) v zero s h e = ap (λ b. cond (not b) (1 + place_of ws w) 0) (sym (number_same w)) ∙ ap (λ k. place_of (w ∷ ws) k) e
+place_found (w ∷ ws) v zero s h e = ap (λ b. cond (not b) (1 + place_of ws w) 0) (sym (number_itself w)) ∙ ap (λ k. place_of (w ∷ ws) k) e
 place_found (w ∷ ws) v (suc i) s h e =
     let below : w < v = place_above w v ws i s.0 (omega arith) e in
     let r : i ≡ place_of ws v = place_found ws v i s.1 (omega arith) e in

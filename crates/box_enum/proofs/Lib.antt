@@ -1,3 +1,4 @@
+pub mod PlainLaws
 pub mod ReadingLaws
 pub mod BoundLaws
 pub mod SearchLaws
@@ -8,3 +9,18 @@ pub mod WithinLaws
 pub mod FindLaws
 pub mod CubeLaws
 pub mod CubePointLaws
+pub mod JoiningLaws
+pub mod CofactorLaws
+pub mod PutBoundLaws
+pub mod PutLaws
+pub mod LeafLaws
+pub mod PutSteps
+pub mod ReplacingSteps
+pub mod WallLaws
+pub mod PlaceLaws
+pub mod RefutingLaws
+pub mod TrunkLaws
+pub mod OppositeRowLaws
+pub mod WitnessLaws
+pub mod WallingLaws
+pub mod ReducingLaws

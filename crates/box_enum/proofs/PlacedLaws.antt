@@ -15,10 +15,7 @@ use Rattle.cert_kit.specs.Row.{row_holds, all_hold, compares_0}
 use Rattle.cert_kit.specs.Variables.{place_of, point_over}
 use Rattle.box_enum.specs.declared.waiting.Waiting.{Waiting}
 use Rattle.box_enum.specs.machine.Searching.{IsPlaced, ArePlaced, waits_hold}
-
-not_false : (b : Bool) → not b ≡ false → b ≡ true
-not_false true e = refl
-not_false false e = cc
+use Rattle.box_enum.proofs.PlainLaws.{not_false}
 
 nonzero_same : (ts : List Term) → AllNonZero ts → nonzero_terms ts ≡ ts
 nonzero_same [] a = refl

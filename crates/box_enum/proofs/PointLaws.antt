@@ -39,6 +39,7 @@ use Rattle.box_enum.specs.machine.Edges.{side_at, sides_at, IsSmallEdge}
 use Rattle.box_enum.specs.machine.Searching.{IsPlaced, ArePlaced, IsWaiting, waits_hold, first_from}
 use Rattle.box_enum.proofs.ReadingLaws.{by_tests, by_tests_above}
 use Rattle.box_enum.proofs.PlacedLaws.{rows_placed}
+use Rattle.box_enum.proofs.PlainLaws.{at_most}
 
 -- ---- bounds are small
 
@@ -223,14 +224,11 @@ too_wide turns rows ss e f h =
 pub not_too_wide : (turns : ℕ) (rows : List PRow) (ss : List Side) → box_of rows ≡ Some ss → true ≡ is_box_within turns rows ss → IsBoxed turns rows
 not_too_wide turns rows ss e f = ap (λ o. option_map_or (is_box_within turns rows) o false) e ∙ sym f
 
-le_is : (a b : ℕ) → nat_le a b ≡ true → a ≤ b
-le_is a b h = grind arith
-
 pub within_parts : (turns : ℕ) (rows : List PRow) (ss : List Side) → true ≡ is_box_within turns rows ss → (length ss ≤ 2048) × (list_all (is_modest (reach_of ss)) rows ≡ true)
 within_parts turns rows ss f =
     let p = and_parts _ _ (sym f) in
     let q = and_parts _ _ p.1 in
-    (le_is _ _ p.0, q.1)
+    (at_most _ _ p.0, q.1)
 
 pub few_edges : (es : List Edge) → length (sides_at es) ≤ 2048 → length es ≤ 2048
 few_edges es h = omega (arith, edges_length es)

@@ -22,10 +22,11 @@ use Rattle.cert_kit.proofs.CutSameLaws.{cut_itself}
 use Rattle.box_enum.specs.declared.reading.Reading.{Reading}
 use Rattle.box_enum.specs.Box.{is_multiple_of, is_shifted, lower_by, upper_by}
 use Rattle.box_enum.specs.machine.Reading.{IsLone, lower_as, upper_as, IsReading}
+use Rattle.box_enum.proofs.PlainLaws.{number_itself, number_not}
 
 -- ---- as many terms that aren't constant
 
-constant_out : (f : ℤ) (us : List Term) → without_constant (with_coeff f [] us) ≡ without_constant us
+pub constant_out : (f : ℤ) (us : List Term) → without_constant (with_coeff f [] us) ≡ without_constant us
 constant_out f us = by_coeff f [] us (λ r. without_constant r ≡ without_constant us) (λ e. refl) (λ n. refl)
 
 zero_times : (g f c : ℤ) → g *ℤ f ≡ c → f ≡ pos 0 → c ≡ pos 0
@@ -84,13 +85,14 @@ none_is r l = record {
       ∙ ap (λ b. lower_as false b r.op (constant_part r.poly)) (l x (negsuc 0)) ∙ no_lower r.op (constant_part r.poly);
   upper = λ x. by_tests_above x r.op r.poly ∙ ap (λ b. upper_as b (is_shifted x (negsuc 0) r.poly) r.op (constant_part r.poly)) (l x (pos 1))
       ∙ ap (λ b. upper_as false b r.op (constant_part r.poly)) (l x (negsuc 0)) ∙ no_upper r.op (constant_part r.poly);
+  rising = tt;
 }
 
-pub some_is : (r : PRow) (v : ℕ) (d : ℤ) (low high : Option ℤ) → IsLone r.poly (Some (v, d))
+pub some_is : (r : PRow) (v : ℕ) (d : ℤ) (rising : Bool) (low high : Option ℤ) → IsLone r.poly (Some (v, d)) → rising ≡ int_eq d (pos 1)
     → low ≡ lower_as (int_eq d (pos 1)) (int_eq d (negsuc 0)) r.op (constant_part r.poly)
     → high ≡ upper_as (int_eq d (pos 1)) (int_eq d (negsuc 0)) r.op (constant_part r.poly)
-    → IsReading r (Some (record { variable = v; low = low; high = high }))
-some_is r v d low high l e f = record {
+    → IsReading r (Some (record { variable = v; rising = rising; low = low; high = high }))
+some_is r v d rising low high l g e f = record {
   lower = λ x. by_tests x r.op r.poly ∙ ap (λ b. lower_as b (is_shifted x (negsuc 0) r.poly) r.op (constant_part r.poly)) (l x (pos 1))
       ∙ ap (λ b. lower_as (nat_eq v x && int_eq d (pos 1)) b r.op (constant_part r.poly)) (l x (negsuc 0))
       ∙ some_lower (nat_eq v x) (int_eq d (pos 1)) (int_eq d (negsuc 0)) r.op (constant_part r.poly)
@@ -99,6 +101,7 @@ some_is r v d low high l e f = record {
       ∙ ap (λ b. upper_as (nat_eq v x && int_eq d (pos 1)) b r.op (constant_part r.poly)) (l x (negsuc 0))
       ∙ some_upper (nat_eq v x) (int_eq d (pos 1)) (int_eq d (negsuc 0)) r.op (constant_part r.poly)
       ∙ ap (λ k. cond (nat_eq v x) k None) (sym f);
+  rising = l v (pos 1) ∙ ap (λ b. b && int_eq d (pos 1)) (number_itself v) ∙ sym g;
 }
 
 -- ---- rows
@@ -125,9 +128,6 @@ mono_other m x n = by_cases (mono_cmp m ((x, 1) ∷ [])) (λ h. ap is_eq h) (λ 
 
 number_is : (x v : ℕ) → nat_eq v x ≡ true → v ≡ x
 number_is x v h = grind arith
-
-number_not : (x v : ℕ) → (v ≡ x → ⊥) → nat_eq v x ≡ false
-number_not x v n = grind arith
 
 abbrev single : ℕ → List (ℕ × ℕ)
 single v = (v, 1) ∷ []
@@ -168,3 +168,6 @@ pub single_is : (m : List (ℕ × ℕ)) (v e : ℕ) → length m ≡ 1 → slice
 single_is [] v e h g i = absurd (omega arith)
 single_is (f ∷ []) v e h g i = let p : f ≡ (v, e) = cc in ap (λ (k : ℕ × ℕ). k ∷ []) p ∙ ap (λ (k : ℕ). (v, k) ∷ []) i
 single_is (f ∷ k ∷ ks) v e h g i = absurd (omega arith)
+
+pub bounds_as : (f : Bool → Bool → Op → ℤ → Option ℤ) (a b up down : Bool) (o : Op) (k m : ℤ) (r : Option ℤ) → r ≡ f a b o k → a ≡ up → b ≡ down → k ≡ m → r ≡ f up down o m
+bounds_as f a b up down o k m r e p q i = e ∙ ap (λ c. f c b o k) p ∙ ap (λ c. f up c o k) q ∙ ap (λ n. f up down o n) i

@@ -21,6 +21,7 @@ use Rattle.box_enum.specs.machine.Edges.{side_at, sides_at}
 use Rattle.box_enum.proofs.EdgeLaws.{places_more}
 use Rattle.box_enum.specs.Box.{Side, points_of, integers_from, count_of, not_below_0, reach_of}
 use Rattle.box_enum.specs.machine.Searching.{IsWaiting, IsPassed, waits_hold, first_from, first_value, Finds}
+use Rattle.box_enum.proofs.PlainLaws.{later_length}
 
 -- ---- a point's first places decide what has places there
 
@@ -231,9 +232,6 @@ pub drop_waiting : (count reach : ℕ) (ws : List Waiting) (n : ℕ) → All (Is
 drop_waiting count reach ws zero a = a
 drop_waiting count reach [] (suc n) a = a
 drop_waiting count reach (w ∷ ws) (suc n) a = drop_waiting count reach ws n (λ k d h. a (suc k) d (omega arith))
-
-later_length : {A : Type 0} (xs : List A) → length (take (length xs - 1) (drop 1 xs)) ≡ length xs - 1
-later_length xs = simp (length-take, length-drop) (omega arith)
 
 pub edges_later : (es : List Edge) → 1 ≤ length es → length (take (length es - 1) (drop 1 es)) + 1 ≡ length es
 edges_later es h = omega (arith, later_length es)

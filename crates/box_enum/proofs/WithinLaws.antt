@@ -33,16 +33,12 @@ use Rattle.std.specs.Option.{option_map, option_or}
 use Rattle.std.proofs.lemmas.List.Folds.{find-append}
 use Rattle.box_enum.proofs.SearchLaws.{map_find}
 use Rattle.box_enum.proofs.PointLaws.{IsPoint, first_in, sides_length, point_is}
+use Rattle.box_enum.proofs.PlainLaws.{is_equal}
 
 -- ---- what a row of one variable says of its value
 
 single_value : (x : ℕ → ℤ) (v : ℕ) → mono_value x ((v, 1) ∷ []) ≡ x v
 single_value x v = *ℤ_comm (x v *ℤ pos 1) (pos 1) ∙ one_mul (x v *ℤ pos 1) ∙ *ℤ_comm (x v) (pos 1) ∙ one_mul (x v)
-
-is_equal : (o : Ordering) → is_eq o ≡ true → o ≡ Equal
-is_equal Less e = cc
-is_equal Equal e = refl
-is_equal Greater e = cc
 
 multiple_value : (x : ℕ → ℤ) (v : ℕ) (c : ℤ) (ts : List Term) → is_multiple_of v c ts ≡ true → value x ts ≡ c *ℤ x v
 multiple_value x v c [] h = absurd cc

@@ -7,10 +7,11 @@ use cert_kit::{Op, PRow, cut_row};
 use mm_poly::{Mono, Poly};
 use std::alloc::{AllocError, Global};
 
-/// The bounds that a row of one variable gives it.
+/// The bounds that a row of one variable gives it, and whether the variable's coefficient is 1.
 #[derive(Clone, Copy, Debug)]
 pub struct Reading {
     pub variable: u32,
+    pub rising: bool,
     pub low: Option<i128>,
     pub high: Option<i128>,
 }
@@ -45,10 +46,13 @@ fn read_row(row: &PRow) -> Option<Reading>
 {
     let (variable, coeff) = lone(&row.poly)?;
     let constant = row.poly.constant_term();
+    let rising = is_one(coeff);
+    let falling = is_minus_one(coeff);
     Some(Reading {
         variable,
-        low: lower_as(row.op, is_one(coeff), is_minus_one(coeff), constant),
-        high: upper_as(row.op, is_one(coeff), is_minus_one(coeff), constant),
+        rising,
+        low: lower_as(row.op, rising, falling, constant),
+        high: upper_as(row.op, rising, falling, constant),
     })
 }
 

@@ -1,2 +1,4 @@
-pub mod EngineLaws
+pub mod LinearLaws
+pub mod NumberedLaws
 pub mod SmallLaws
+pub mod EngineLaws

@@ -3,16 +3,19 @@ ghost use Rattle.mm_poly.specs.Point.{point_of};
 ghost use Rattle.cert_kit.specs.Row.{Solves};
 ghost use Rattle.cert_kit.specs.Acceptance.{IsGood};
 ghost use Rattle.cert_kit.specs.Depth.{cert_depth, MakesCert};
+ghost use Rattle.cert_kit.specs.Variables.{variables_of};
 ghost use Rattle.mm_num.specs.Small.{IsSmall};
 ghost use Rattle.std.specs.List.{AllByRecursion};
-ghost use Rattle.fm_elim.specs.Unknowns.{unknowns};
+ghost use Rattle.box_enum.specs.Box.{IsBoxed};
 ghost use Rattle.clause_engine.specs.declared.outcome.Why.TheVariants.{Over as IsOver};
 ghost use Rattle.clause_engine.specs.Settled.{IsNumbered, IsSettled, HasPoint, clause_point, WhyOf};
 ghost use Rattle.clause_engine.specs.Outcome.{IfCert, IfPoint, IfUnsettled};
+ghost use Rattle.clause_engine.specs.machine.Deciding.{IsRefuted, Decides};
 
 use crate::linear::{are_linear, are_rows};
 use crate::outcome::{Outcome, Why};
-use cert_kit::Clause;
+use box_enum::{BoxEnd, boxed, settle};
+use cert_kit::{Clause, PRow};
 use fm_elim::{Elim, eliminate};
 use goal_ast::Mode;
 use sqlite_items::Items;
@@ -21,7 +24,8 @@ use std::thread::Threads;
 
 /// What comes of a clause in so many turns: a certificate, a point, or why neither.
 ///
-/// The values of a point are those of the clause's variables, in their order.
+/// The values of a point are those of the clause's variables, in their order. Where the elimination finds no contradiction,
+/// the box comes before the elimination's point.
 pub fn prove_clause<R: Threads + Sync>(
     rt: &R,
     alloc: Global,
@@ -36,7 +40,7 @@ pub fn prove_clause<R: Threads + Sync>(
     ensures shallow { IfOk result (IfCert (λ c. cert_depth c ≤ 4000)) }
     ensures pointless { IfOk result (IfCert (λ c. HasPoint mode turns clause.now.rows → ⊥)) }
     ensures pointed { IfOk result (IfPoint (λ values why. HasPoint mode turns clause.now.rows)) }
-    ensures one_each { IfOk result (IfPoint (λ values why. length values ≡ length (unknowns clause.now.rows))) }
+    ensures one_each { IfOk result (IfPoint (λ values why. length values ≡ length (variables_of clause.now.rows))) }
     ensures values { IfOk result (IfPoint (λ values why. (v : ℕ) → v < length values → point_of values v ≡ clause_point mode turns clause.now.rows v)) }
     ensures small { IfOk result (IfPoint (λ values why. AllByRecursion IsSmall values)) }
     ensures solves { IfOk result (IfPoint (λ values why. Solves (point_of values) clause.now.rows)) }
@@ -45,13 +49,35 @@ pub fn prove_clause<R: Threads + Sync>(
     ensures why { IfOk result (IfUnsettled (WhyOf mode turns clause.now.rows)) }
 {
     let _ = rt;
-    let _ = turns;
+    decided(alloc, clause, mode, turns)
+}
+
+fn decided(alloc: Global, clause: &Clause, mode: Mode, turns: u32) -> Result<Outcome, AllocError>
+    requires rows { length clause.now.rows < 2 ^ 32 }
+    requires numbered { IsNumbered clause.now.rows }
+    ensures { IfOk result (Decides mode turns clause.now.rows) }
+{
+    let rows = clause.rows.as_slice();
+    match eliminated(alloc, rows, mode, turns)? {
+        Outcome::Cert(cert) => Ok(Outcome::Cert(cert)),
+        left => enumerated(alloc, rows, mode, turns, left),
+    }
+}
+
+// What the elimination says: a certificate, or what comes of a clause that isn't boxed.
+fn eliminated(alloc: Global, rows: &[PRow], mode: Mode, turns: u32) -> Result<Outcome, AllocError>
+    requires rows { length rows.now < 2 ^ 32 }
+    requires numbered { IsNumbered rows.now }
+    ensures refuted { IfOk result (IfCert (IsRefuted mode turns rows.now)) }
+    ensures unboxed { IfOk result (λ o. (IsBoxed turns rows.now → ⊥) → Decides mode turns rows.now o) }
+{
     let _ = mode;
-    are_rows(clause.rows.as_slice());
-    match eliminate(alloc, clause.rows.as_slice())? {
+    let _ = turns;
+    are_rows(rows);
+    match eliminate(alloc, rows)? {
         Elim::Contra(cert) => Ok(Outcome::Cert(cert)),
         Elim::Point(values) => {
-            if are_linear(clause.rows.as_slice()) {
+            if are_linear(rows) {
                 Ok(Outcome::Point(Items::from_vec(values), Why::Over))
             } else {
                 Ok(Outcome::Unsettled(Why::Grey))
@@ -59,5 +85,29 @@ pub fn prove_clause<R: Threads + Sync>(
         }
         Elim::Grey => Ok(Outcome::Unsettled(Why::Grey)),
         Elim::Over => Ok(Outcome::Unsettled(Why::Over)),
+    }
+}
+
+// What the box says, and what is left to say where the clause isn't boxed.
+fn enumerated(
+    alloc: Global,
+    rows: &[PRow],
+    mode: Mode,
+    turns: u32,
+    left: Outcome,
+) -> Result<Outcome, AllocError>
+    requires rows { length rows.now < 2 ^ 32 }
+    requires numbered { IsNumbered rows.now }
+    requires left { (IsBoxed turns rows.now → ⊥) → Decides mode turns rows.now left }
+    ensures { IfOk result (Decides mode turns rows.now) }
+{
+    let _ = mode;
+    let Some(bounds) = boxed(alloc, rows)? else {
+        return Ok(left);
+    };
+    match settle(alloc, rows, &bounds, turns)? {
+        BoxEnd::Cert(cert) => Ok(Outcome::Cert(cert)),
+        BoxEnd::Point(values) => Ok(Outcome::Point(values, Why::Over)),
+        BoxEnd::TooWide => Ok(left),
     }
 }

@@ -1,6 +1,5 @@
 pub mod PlacingLaws
 pub mod WitnessLaws
-pub mod LinearLaws
 pub mod ReachLaws
 pub mod TryingLaws
 pub mod AnswerLaws

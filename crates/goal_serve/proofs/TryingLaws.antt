@@ -1,20 +1,25 @@
 -- Clauses tried one after another.
 use Rattle.std.specs.Prelude.{◌≡◌, ℕ, zero, suc, ◌+◌, ◌^◌, ◌<◌, List, [], ◌∷◌, ◌++◌, length, Some, slice_get, All, refl}
 use Rattle.std.specs.List.{AllByRecursion}
-use Rattle.std.proofs.Common.{ap, sym, ◌∙◌, subst, append_assoc, arith}
+use Rattle.std.proofs.Common.{ap, sym, ◌∙◌, subst, append_assoc, append-nil, arith}
 use Rattle.std.proofs.lemmas.List.{length-append}
 use Rattle.std.proofs.lemmas.List.Elements.{All-get_or}
 use Rattle.std.proofs.lemmas.Option.{slice_get_within, get_or_from_slice_get}
 use Rattle.mm_num.proofs.ListLaws.{all_join}
 use Rattle.goal_ast.specs.declared.goal.Goal.{Goal}
+use Rattle.goal_ast.specs.declared.goal.Assignment.{Assignment}
 use Rattle.zify.specs.Translation.{translated}
 use Rattle.clause_form.specs.Clauses.{clauses_of}
 use Rattle.clause_form.specs.declared.named.Named.{Named}
+use Rattle.box_enum.specs.Cube.{cube_of}
 use Rattle.clause_engine.specs.declared.outcome.Why.{Why}
 use Rattle.goal_serve.specs.declared.answers.Shown.{Shown}
+use Rattle.goal_serve.specs.declared.answers.Answer.TheVariants as answers
+use Rattle.goal_serve.specs.declared.trying.Reached.{Reached}
 use Rattle.goal_serve.specs.declared.trying.Tried.{Tried}
-use Rattle.goal_serve.specs.Answering.{IsShown, AreShown, IsWitnessed, MayStay, StaysAt}
-use Rattle.goal_serve.specs.machine.Trying.{IsClauseOf, IsTried}
+use Rattle.goal_serve.specs.declared.trying.Next.TheVariants as next
+use Rattle.goal_serve.specs.Answering.{IsShown, AreShown, IsWitnessed, MayStay, StaysAt, MeetsTests}
+use Rattle.goal_serve.specs.machine.Trying.{IsClauseOf, IsReached, IsTried, GoesOn}
 
 pub shown_with : (cs : List Named) (shown : List Shown) (n : Named) (s : Shown) → AreShown cs shown → IsShown n s → AreShown (cs ++ n ∷ []) (shown ++ s ∷ [])
 shown_with [] [] n s a h = (h, tt)
@@ -53,31 +58,34 @@ one_more done n left rest cs e l = append_assoc done (n ∷ []) rest ∙ ap (λ 
 longer : (done : List Named) (n : Named) → length (done ++ n ∷ []) ≡ length done + 1
 longer done n = length-append done (n ∷ [])
 
-pub next_shown : (goal : Goal) (turns : ℕ) (cs left rest : List Named) (number m : ℕ) (n : Named) (s : Shown) (t u : Tried) → Trying goal turns cs left number t → left ≡ n ∷ rest → m ≡ number + 1
-    → ((g : Goal) (k : ℕ) (ds : List Named) (c : Named) → IsTried g k ds t → IsShown c s → IsTried g k (ds ++ c ∷ []) u)
-    → IsShown n s
-    → (IsWitnessed goal turns n → ⊥)
+-- one more clause, and the rest
+pub next_on : (goal : Goal) (turns : ℕ) (cs left rest : List Named) (number m : ℕ) (n : Named) (t u : Tried) (r : Reached) → Trying goal turns cs left number t → left ≡ n ∷ rest → m ≡ number + 1
+    → GoesOn goal t number r (next.Go u)
+    → IsReached goal turns n r
     → Trying goal turns cs rest m u
-next_shown goal turns cs left rest number m n s t u y l e f h w = record {
-  done = y.done ++ n ∷ [];
-  whole = one_more y.done n left rest cs y.whole l;
-  count = omega (arith, e, y.count, longer y.done n);
-  tried = f goal turns y.done n y.tried h;
-  none = all_join (λ c. IsWitnessed goal turns c → ⊥) y.done (n ∷ []) y.none (w, tt);
-}
+next_on goal turns cs left rest number m n t u r y l e g h =
+    let f = g turns y.done n y.tried y.count h in
+    record {
+      done = y.done ++ n ∷ [];
+      whole = one_more y.done n left rest cs y.whole l;
+      count = omega (arith, e, y.count, longer y.done n);
+      tried = f.0;
+      none = all_join (λ c. IsWitnessed goal turns c → ⊥) y.done (n ∷ []) y.none (f.1, tt);
+    }
 
-pub next_stays : (goal : Goal) (turns : ℕ) (cs left rest : List Named) (number m : ℕ) (n : Named) (why : Why) (t u : Tried) → Trying goal turns cs left number t → left ≡ n ∷ rest → m ≡ number + 1
-    → ((g : Goal) (k : ℕ) (ds : List Named) (c : Named) → IsTried g k ds t → number ≡ length ds → MayStay g k c why → IsTried g k (ds ++ c ∷ []) u)
-    → (IsWitnessed goal turns n → ⊥)
-    → MayStay goal turns n why
-    → Trying goal turns cs rest m u
-next_stays goal turns cs left rest number m n why t u y l e f w h = record {
-  done = y.done ++ n ∷ [];
-  whole = one_more y.done n left rest cs y.whole l;
-  count = omega (arith, e, y.count, longer y.done n);
-  tried = f goal turns y.done n y.tried y.count h;
-  none = all_join (λ c. IsWitnessed goal turns c → ⊥) y.done (n ∷ []) y.none (w, tt);
-}
+pub stopped_at : (goal : Goal) (turns : ℕ) (cs left : List Named) (number : ℕ) (n : Named) (t : Tried) (r : Reached) (a : Assignment) → Trying goal turns cs left number t → GoesOn goal t number r (next.Refuted a)
+    → IsReached goal turns n r → MeetsTests (cube_of goal) goal turns (clauses_of (translated goal)) (answers.Refuted a)
+stopped_at goal turns cs left number n t r a y g h = g turns y.done n y.tried y.count h
+
+pub all_tried : (goal : Goal) (turns : ℕ) (cs left : List Named) (number : ℕ) (t : Tried) → Trying goal turns cs left number t → left ≡ [] → IsTried goal turns cs t × AllByRecursion (λ n. IsWitnessed goal turns n → ⊥) cs
+all_tried goal turns cs left number t y e =
+    let w : y.done ≡ cs = sym (append-nil y.done) ∙ ap (λ xs. y.done ++ xs) (sym e) ∙ y.whole in
+    (subst (λ xs. IsTried goal turns xs t) w y.tried, subst (λ xs. AllByRecursion (λ n. IsWitnessed goal turns n → ⊥) xs) w y.none)
+
+-- ---- one more clause
+
+pub one_shown : (goal : Goal) (turns : ℕ) (cs : List Named) (n : Named) (shown after : List Shown) (s : Shown) → after ≡ shown ++ s ∷ [] → AreShown cs shown → IsShown n s → AreShown (cs ++ n ∷ []) after
+one_shown goal turns cs n shown after s e a h = subst (λ (xs : List Shown). AreShown (cs ++ n ∷ []) xs) (sym e) (shown_with cs shown n s a h)
 
 -- the next one is one of the goal's clauses
 pub next_is : (goal : Goal) (turns : ℕ) (cs left rest : List Named) (number : ℕ) (n : Named) (t : Tried) → Trying goal turns cs left number t → left ≡ n ∷ rest → cs ≡ clauses_of (translated goal)

@@ -1,5 +1,5 @@
 -- Good answers to a goal: one case for each answer.
-use Rattle.std.specs.Prelude.{◌≡◌, ◌≢◌, ◌⊎◌, ℕ, ◌<◌, ◌≤◌, pos, List, [], ◌∷◌, length, nat_eq, Some, slice_get, Err, if◌then◌else◌}
+use Rattle.std.specs.Prelude.{◌≡◌, ◌≢◌, ◌⊎◌, ℕ, ◌<◌, ◌≤◌, pos, List, [], ◌∷◌, length, nat_eq, Option, Some, None, slice_get, Err, if◌then◌else◌}
 use Rattle.std.specs.List.{AllByRecursion, list_any}
 use Rattle.cert_kit.specs.Acceptance.{IsGood}
 use Rattle.goal_ast.specs.declared.goal.Goal.{Goal}
@@ -17,6 +17,7 @@ use Rattle.zify.specs.Translation.{translated}
 use Rattle.clause_form.specs.declared.named.Named.{Named}
 use Rattle.cert_kit.specs.Variables.{place_of}
 use Rattle.clause_form.specs.Clauses.{clauses_of, number_of}
+use Rattle.box_enum.specs.Cube.{cube_of}
 use Rattle.clause_engine.specs.declared.outcome.Why.{Why}
 use Rattle.clause_engine.specs.declared.outcome.Why.TheVariants as whys
 use Rattle.clause_engine.specs.Settled.{IsSettled, HasPoint, clause_point, WhyOf}
@@ -86,6 +87,11 @@ MeetsClauses goal turns cs (answers.Unsettled k why) = IsUnsettled goal turns cs
 MeetsClauses goal turns cs (answers.Oversize kind) = ⊥
 MeetsClauses goal turns cs (answers.IllSorted at) = ⊥
 
+-- the cube's assignment where it holds, and else what comes of the clauses
+abbrev pub MeetsTests : Option Assignment → Goal → ℕ → List Named → Answer → Type 0
+MeetsTests (Some a) goal turns cs answer = answer ≡ answers.Refuted a
+MeetsTests None goal turns cs answer = MeetsClauses goal turns cs answer
+
 -- no measure passes its limit, and there are at most 4,096 clauses
 pub record IsOfSize (z : ZGoal) : Type 0 where
   pub measures : IsWithinLimits z
@@ -100,7 +106,7 @@ Passes z (kinds.Splits number) = IsWithinLimits z × (4096 < length (clauses_of 
 
 abbrev pub MeetsLimits : Goal → ℕ → ZGoal → Answer → Type 0
 MeetsLimits goal turns z (answers.Oversize kind) = Passes z kind
-MeetsLimits goal turns z answer = IsOfSize z × MeetsClauses goal turns (clauses_of z) answer
+MeetsLimits goal turns z answer = IsOfSize z × MeetsTests (cube_of goal) goal turns (clauses_of z) answer
 
 -- a good answer to a goal
 abbrev pub MeetsGoal : Goal → ℕ → Answer → Type 0

@@ -15,8 +15,9 @@ use zify::{ZFail, ZGoal, zify};
 
 /// The answer to a goal, in so many turns for each clause; the number is the goal's in its session.
 ///
-/// Each limit is tested before a clause is made. A clause with a point at which the body is false refutes the goal; else
-/// the first clause that has no certificate leaves it unsettled.
+/// Each limit is tested before a clause is made. Where the goal is false somewhere in the cube, the first such assignment
+/// refutes it; else a clause with a point at which the body is false does, and else the first clause that has no
+/// certificate leaves it unsettled.
 pub fn answer<R: Threads + Sync>(
     rt: &R,
     alloc: Global,

@@ -1,4 +1,4 @@
-ghost use Rattle.std.specs.Prelude.{◌≡◌, ◌≤◌, ◌<◌, ◌^◌, ◌++◌, [], ◌∷◌, ℕ, List, length, All, IfOk};
+ghost use Rattle.std.specs.Prelude.{◌≡◌, ◌≤◌, ◌<◌, ◌^◌, ℕ, List, length, All, IfOk};
 ghost use Rattle.std.specs.List.{AllByRecursion};
 ghost use Rattle.goal_ast.specs.declared.goal.Goal.{Goal as Question};
 ghost use Rattle.goal_ast.specs.Range.{IsInRange};
@@ -6,11 +6,13 @@ ghost use Rattle.goal_ast.specs.Sorted.{IsWellFormed};
 ghost use Rattle.zify.specs.Translation.{translated};
 ghost use Rattle.clause_form.specs.declared.named.Named.{Named as ANamed};
 ghost use Rattle.clause_form.specs.Clauses.{clauses_of};
-ghost use Rattle.goal_serve.specs.Answering.{IsShown, IsWitnessed, MayStay, MeetsClauses};
-ghost use Rattle.goal_serve.specs.machine.Trying.{IsClauseOf, IsReached, IsJudged, IsTried};
+ghost use Rattle.box_enum.specs.Cube.{cube_of};
+ghost use Rattle.goal_serve.specs.Answering.{Refutes, IsWitnessed, MayStay, MeetsTests};
+ghost use Rattle.goal_serve.specs.machine.Trying.{IsClauseOf, IsReached, IsJudged, IsTried, IsNext, GoesOn};
 
 use crate::answers::{Answer, Origin, Shown};
 use crate::placing::placed;
+use box_enum::cube;
 use clause_engine::{Outcome, Why, prove_clause};
 use clause_form::Named;
 use goal_ast::{Assignment, Eval, Goal, eval};
@@ -33,7 +35,16 @@ pub enum Tried {
     Stays(u32, Why),
 }
 
-// The answer to a goal within the limits, by its clauses in order.
+/// What comes of one more clause: the clauses go on, or the goal is refuted.
+#[derive(Drop)]
+pub enum Next {
+    Go(Tried),
+    Refuted(Assignment),
+}
+
+// The answer to a goal within the limits, by its clauses in order, and by the cube as soon as one has no certificate.
+//
+// A goal whose clauses all have certificates is valid, so its cube isn't searched.
 pub(crate) fn answer_by<R: Threads + Sync>(
     rt: &R,
     alloc: Global,
@@ -45,44 +56,103 @@ pub(crate) fn answer_by<R: Threads + Sync>(
     requires list { list.items ≡ clauses_of (translated goal.now) }
     requires short { All (λ (n : ANamed). length n.clause.rows < 2 ^ 32) list.items }
     requires few { length list.items ≤ 4096 }
-    ensures { IfOk result (MeetsClauses goal.now turns (clauses_of (translated goal.now))) }
+    ensures { IfOk result (MeetsTests (cube_of goal.now) goal.now turns (clauses_of (translated goal.now))) }
 {
     let mut number = 0;
     let mut tried = Tried::All(Vec::with_capacity(alloc, list.len())?);
     for named in list {
-        tried = match reach(rt, alloc, goal, named, turns)? {
-            Reached::Shown(shown) => with_shown(tried, shown)?,
-            Reached::Refuted(a) => return Ok(Answer::Refuted(a)),
-            Reached::Stays(why) => with_stay(tried, number, why),
+        let reached = reach(rt, alloc, goal, named, turns)?;
+        tried = match go_on(alloc, goal, tried, number, reached)? {
+            Next::Go(tried) => tried,
+            Next::Refuted(a) => return Ok(Answer::Refuted(a)),
         };
         number += 1;
     }
     Ok(answer_of(tried))
 }
 
-fn with_shown(tried: Tried, shown: Shown) -> Result<Tried, AllocError>
-    ensures { IfOk result (λ t. (goal : Question) (turns : ℕ) (cs : List ANamed) (n : ANamed) → IsTried goal turns cs tried → IsShown n shown → IsTried goal turns (cs ++ n ∷ []) t) }
+// The clauses that were tried, and one more.
+fn go_on(
+    alloc: Global,
+    goal: &Goal,
+    tried: Tried,
+    number: u32,
+    reached: Reached,
+) -> Result<Next, AllocError>
+    requires { IsWellFormed goal.now }
+    ensures { IfOk result (GoesOn goal.now tried number reached) }
 {
     match tried {
-        Tried::All(mut all) => {
-            all.push(shown)?;
-            Ok(Tried::All(all))
-        }
-        Tried::Stays(clause, why) => Ok(Tried::Stays(clause, why)),
+        Tried::All(shown) => after_all(alloc, goal, shown, number, reached),
+        Tried::Stays(clause, why) => Ok(after_stay(goal, clause, why, number, reached)),
     }
 }
 
-fn with_stay(tried: Tried, number: u32, why: Why) -> Tried
-    ensures { (goal : Question) (turns : ℕ) (cs : List ANamed) (n : ANamed) → IsTried goal turns cs tried → number ≡ length cs → MayStay goal turns n why → IsTried goal turns (cs ++ n ∷ []) result }
+// One more clause where all before it have certificates.
+fn after_all(
+    alloc: Global,
+    goal: &Goal,
+    mut shown: Vec<Shown>,
+    number: u32,
+    reached: Reached,
+) -> Result<Next, AllocError>
+    requires { IsWellFormed goal.now }
+    ensures { IfOk result (GoesOn goal.now (Tried.All shown) number reached) }
 {
-    match tried {
-        Tried::All(_) => Tried::Stays(number, why),
-        Tried::Stays(clause, first) => Tried::Stays(clause, first),
+    match reached {
+        Reached::Shown(one) => {
+            shown.push(one)?;
+            Ok(Next::Go(Tried::All(shown)))
+        }
+        Reached::Refuted(a) => {
+            let next = refuted(alloc, goal, a)?;
+            Ok(next)
+        }
+        Reached::Stays(why) => {
+            let next = stays(alloc, goal, number, why)?;
+            Ok(next)
+        }
+    }
+}
+
+// The first clause that has no certificate has a point at which the goal is false.
+fn refuted(alloc: Global, goal: &Goal, a: Assignment) -> Result<Next, AllocError>
+    requires { IsWellFormed goal.now }
+    ensures { IfOk result (λ next. (turns : ℕ) (cs : List ANamed) (n : ANamed) → Refutes goal.now a → IsNext goal.now turns cs n next) }
+{
+    match cube(alloc, goal)? {
+        Some(first) => Ok(Next::Refuted(first)),
+        None => Ok(Next::Refuted(a)),
+    }
+}
+
+// The first clause that has no certificate stays.
+fn stays(alloc: Global, goal: &Goal, number: u32, why: Why) -> Result<Next, AllocError>
+    requires { IsWellFormed goal.now }
+    ensures { IfOk result (λ next. (turns : ℕ) (cs : List ANamed) (n : ANamed) → number ≡ length cs → (IsWitnessed goal.now turns n → ⊥) → MayStay goal.now turns n why → IsNext goal.now turns cs n next) }
+{
+    match cube(alloc, goal)? {
+        Some(first) => Ok(Next::Refuted(first)),
+        None => Ok(Next::Go(Tried::Stays(number, why))),
+    }
+}
+
+// One more clause where one before it stays, and the cube doesn't hold.
+fn after_stay(goal: &Goal, clause: u32, why: Why, number: u32, reached: Reached) -> Next
+    ensures { GoesOn goal.now (Tried.Stays clause why) number reached result }
+{
+    let _ = goal;
+    let _ = number;
+    match reached {
+        Reached::Shown(_) => Next::Go(Tried::Stays(clause, why)),
+        Reached::Refuted(a) => Next::Refuted(a),
+        Reached::Stays(_) => Next::Go(Tried::Stays(clause, why)),
     }
 }
 
 fn answer_of(tried: Tried) -> Answer
-    ensures { (goal : Question) (turns : ℕ) (cs : List ANamed) → IsTried goal turns cs tried → AllByRecursion (λ n. IsWitnessed goal turns n → ⊥) cs → MeetsClauses goal turns cs result }
+    ensures { (goal : Question) (turns : ℕ) → IsWellFormed goal → IsTried goal turns (clauses_of (translated goal)) tried → AllByRecursion (λ n. IsWitnessed goal turns n → ⊥) (clauses_of (translated goal))
+        → MeetsTests (cube_of goal) goal turns (clauses_of (translated goal)) result }
 {
     match tried {
         Tried::All(all) => Answer::Proved(Items::from_vec(all)),

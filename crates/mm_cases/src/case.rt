@@ -10,6 +10,8 @@ pub enum Kind {
     Check,
     /// The answers of `mm prove` to the goals of these bytes, parted by `; `, and the status.
     Prove,
+    /// The same for the goals after `; `, with so many turns as stand before it.
+    Within,
     /// The whole report, its line feeds as `%0a`, and the status.
     Report,
     /// How many certificates of the report `mm check` accepts with their rows, of how many.
@@ -87,6 +89,7 @@ fn kind_of(word: &str) -> Option<Kind> {
         "verdict" => Some(Kind::Verdict),
         "check" => Some(Kind::Check),
         "prove" => Some(Kind::Prove),
+        "within" => Some(Kind::Within),
         "report" => Some(Kind::Report),
         "accepted" => Some(Kind::Accepted),
         "words" => Some(Kind::Words),

@@ -17,6 +17,7 @@ mod parts;
 mod program;
 mod prove;
 mod reading;
+mod settled;
 mod simplex;
 mod spelling;
 mod tokens;
@@ -36,6 +37,7 @@ fn answer_to<R: Threads + Sync>(rt: &R, alloc: Global, case: &Case) -> Result<Ve
         Kind::Verdict => check::verdict(rt, alloc, case.input),
         Kind::Check => check::line(rt, alloc, &input_of(alloc, case.input)?),
         Kind::Prove => prove::answers(rt, alloc, case.input),
+        Kind::Within => prove::within(rt, alloc, case.input),
         Kind::Report => prove::report(rt, alloc, case.input),
         Kind::Accepted => prove::accepted(rt, alloc, case.input),
         Kind::Words => prove::asked(rt, alloc, case.input),

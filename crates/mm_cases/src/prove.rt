@@ -22,6 +22,18 @@ fn proved<R: Threads + Sync>(rt: &R, alloc: Global, input: &str) -> Result<Writt
     run_with(rt, alloc, "prove", &input_of(alloc, input)?)
 }
 
+// The lines of the report that are answers, parted by `; `, and the status.
+fn answers_of(alloc: Global, written: &Written) -> Result<Vec<u8>, AllocError> {
+    let mut answer = Vec::new(alloc);
+    for line in String::from_utf8_lossy(alloc, &written.text)?.lines() {
+        if is_answer(line) {
+            push_part(&mut answer, line.as_bytes())?;
+        }
+    }
+    written.push_status(alloc, &mut answer)?;
+    Ok(answer)
+}
+
 fn is_answer(line: &str) -> bool {
     line.contains(" := ") || !OTHERS.iter().any(|word| line.starts_with(*word))
 }
@@ -40,15 +52,21 @@ pub fn answers<R: Threads + Sync>(
     alloc: Global,
     input: &str,
 ) -> Result<Vec<u8>, AllocError> {
-    let written = proved(rt, alloc, input)?;
-    let mut answer = Vec::new(alloc);
-    for line in String::from_utf8_lossy(alloc, &written.text)?.lines() {
-        if is_answer(line) {
-            push_part(&mut answer, line.as_bytes())?;
-        }
-    }
-    written.push_status(alloc, &mut answer)?;
-    Ok(answer)
+    answers_of(alloc, &proved(rt, alloc, input)?)
+}
+
+/// The same for the goals after `; `, with so many turns as stand before it.
+pub fn within<R: Threads + Sync>(
+    rt: &R,
+    alloc: Global,
+    input: &str,
+) -> Result<Vec<u8>, AllocError> {
+    let Some((turns, goals)) = input.split_once("; ") else {
+        return Vec::from_slice(alloc, b"no turns");
+    };
+    let words = format!(in alloc; "prove --turns {turns}")?;
+    let written = run_with(rt, alloc, &words, &input_of(alloc, goals)?)?;
+    answers_of(alloc, &written)
 }
 
 /// The whole report, each line feed as `%0a`, and the status.

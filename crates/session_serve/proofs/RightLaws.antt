@@ -13,6 +13,7 @@ use Rattle.goal_text.specs.GoalsRead.{AreReadable}
 use Rattle.goal_serve.specs.declared.answers.Answer.{Answer}
 use Rattle.goal_serve.specs.declared.answers.Answer.TheVariants.{Proved, Refuted, Unsettled, Oversize, IllSorted}
 use Rattle.goal_serve.specs.Answering.{MeetsGoal, MeetsRaw, IfProved}
+use Rattle.goal_serve.proofs.AnswerLaws.{refuted_false}
 use Rattle.session_serve.specs.Pairing.{OneEach}
 use Rattle.session_serve.specs.Rightness.{IsValidRaw, IsRight, AreRight, AreValid}
 use Rattle.session_serve.specs.Serving.{IsServed, IsProved, MeetSessions, AreProved}
@@ -26,7 +27,7 @@ ProvesWell = (goal : Goal) (turns : ℕ) (a : Answer) → IsWellFormed goal → 
 
 right : SortsWell → ProvesWell → (turns : ℕ) (raw : RawGoal) (a : Answer) → IsReadable raw → MeetsRaw raw turns a → IsRight raw a
 right sorts proves turns raw (Proved shown) readable meets = (meets.0, meets.1, proves meets.0 turns (Proved shown) (sorts raw meets.0 readable meets.1) meets.2)
-right sorts proves turns raw (Refuted a) readable meets = (meets.0, meets.1, meets.2.1)
+right sorts proves turns raw (Refuted a) readable meets = (meets.0, meets.1, refuted_false meets.0 turns a meets.2)
 right sorts proves turns raw (Unsettled k why) readable meets = tt
 right sorts proves turns raw (Oversize kind) readable meets = tt
 right sorts proves turns raw (IllSorted at) readable meets = tt

@@ -10,6 +10,7 @@ use Rattle.goal_serve.specs.declared.answers.Answer.{Answer}
 use Rattle.goal_serve.specs.declared.answers.Answer.TheVariants.{Proved, Refuted, Unsettled, Oversize, IllSorted}
 use Rattle.goal_serve.specs.Answering.{MeetsGoal, MeetsRaw}
 use Rattle.goal_serve.specs.Reply.{IsPrintable}
+use Rattle.goal_serve.proofs.AnswerLaws.{refuted_false, not_ill_sorted}
 use Rattle.session_serve.specs.Report.{IsReply, AreReplies}
 use Rattle.session_serve.specs.Serving.{IsServed, MeetSessions}
 use Rattle.session_serve.proofs.PairingLaws.{each_weaker}
@@ -21,7 +22,7 @@ meets_raw raw goal turns (Proved shown) sorted meets = (goal, sorted, meets)
 meets_raw raw goal turns (Refuted a) sorted meets = (goal, sorted, meets)
 meets_raw raw goal turns (Unsettled k why) sorted meets = (goal, sorted, meets)
 meets_raw raw goal turns (Oversize kind) sorted meets = (goal, sorted, meets)
-meets_raw raw goal turns (IllSorted at) sorted meets = absurd meets.1
+meets_raw raw goal turns (IllSorted at) sorted meets = absurd (not_ill_sorted goal turns at meets)
 
 -- a good answer to the goal is one to the goal as it was read
 pub served : (raw : RawGoal) (goal : Goal) (turns : ℕ) (a : Answer) → IsSorted raw goal → MeetsGoal goal turns a → IsServed turns raw a
@@ -34,10 +35,10 @@ served_refused raw turns at e = record { meets = e; files = refl }
 
 printable : (goal : Goal) (turns : ℕ) (a : Answer) → MeetsGoal goal turns a → IsPrintable goal a
 printable goal turns (Proved shown) meets = tt
-printable goal turns (Refuted a) meets = meets.1.in_range
+printable goal turns (Refuted a) meets = (refuted_false goal turns a meets).in_range
 printable goal turns (Unsettled k why) meets = tt
 printable goal turns (Oversize kind) meets = tt
-printable goal turns (IllSorted at) meets = meets.1
+printable goal turns (IllSorted at) meets = not_ill_sorted goal turns at meets
 
 abbrev pub replies_by : Placed Goal → Answer → Type 0
 replies_by sorted a = elim sorted as (λ _. Type 0) [ Ok goal ↦ IsPrintable goal a | Err at ↦ a ≡ IllSorted at ]

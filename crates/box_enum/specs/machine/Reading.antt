@@ -1,5 +1,5 @@
 -- What a row of one variable says of that variable, and what rows say of each one.
-use Rattle.std.specs.Prelude.{◌≡◌, ℕ, ℤ, neg_ℤ, List, [], ◌∷◌, Bool, false, nat_eq, ◌&&◌, Option, Some, None, if◌then◌else◌}
+use Rattle.std.specs.Prelude.{◌≡◌, ℕ, ℤ, pos, neg_ℤ, List, [], ◌∷◌, Bool, false, nat_eq, ◌&&◌, Option, Some, None, if◌then◌else◌}
 use Rattle.std.specs.Int.{int_min, int_max}
 use Rattle.std.specs.Ordering.{int_eq}
 use Rattle.mm_num.specs.Option.{◌>>=◌}
@@ -37,10 +37,16 @@ abbrev pub high_read : Option Reading → ℕ → Option ℤ
 high_read None x = None
 high_read (Some r) x = if nat_eq r.variable x then r.high else None
 
+-- whether the variable that was read rises, with the coefficient 1
+abbrev pub IsRisingAs : List Term → Option Reading → Type 0
+IsRisingAs p None = Unit {0}
+IsRisingAs p (Some r) = is_shifted r.variable (pos 1) p ≡ r.rising
+
 -- it is what the row says of each variable
 pub record IsReading (r : PRow) (o : Option Reading) : Type 0 where
   pub lower : (x : ℕ) → lower_by x r.op r.poly ≡ low_read o x
   pub upper : (x : ℕ) → upper_by x r.op r.poly ≡ high_read o x
+  pub rising : IsRisingAs r.poly o
 
 -- the bounds that rows give a variable, and with those that were read besides
 abbrev pub span_of : List PRow → ℕ → Span

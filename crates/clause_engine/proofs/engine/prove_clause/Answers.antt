@@ -1,21 +1,49 @@
-use Rattle.std.proofs.Common.{rules, ◌≡◌, List, sym, subst}
+use Rattle.std.proofs.Common.{◌≡◌, ◌≤◌, ◌<◌, ℕ, List, length}
 use Rattle.std.specs.Prelude.{ℤ}
 use Rattle.std.specs.List.{AllByRecursion}
 use Rattle.mm_num.specs.Small.{IsSmall}
-use Rattle.fm_elim.specs.Points.{point_of, IsTame, AreLinear, AreRows}
-use Rattle.clause_engine.proofs.EngineLaws.{by_variable}
-use Rattle.clause_engine.proofs.SmallLaws.{point_small}
+use Rattle.mm_poly.specs.Point.{point_of}
+use Rattle.cert_kit.specs.Row.{Solves}
+use Rattle.cert_kit.specs.Acceptance.{IsGood}
+use Rattle.cert_kit.specs.Depth.{cert_depth, MakesCert}
+use Rattle.cert_kit.specs.Variables.{variables_of}
+use Rattle.clause_engine.specs.declared.outcome.Why.TheVariants.{Over}
+use Rattle.clause_engine.specs.Settled.{IsSettled, HasPoint, clause_point, WhyOf}
+use Rattle.clause_engine.proofs.EngineLaws.{of_cert, of_point, of_left, ok_on}
 use Rattle.clause_engine.proofs.engine.prove_clause.Goals as goal
 
-pub returns-then-are_linear-clause-values : goal.returns-then-are_linear-clause-values
-returns-then-are_linear-clause-values g c =
-    let same : c.from_vec.result ≡ point_of c.args.clause.now.rows = search rules in
-    let linear : AreLinear c.args.clause.now.rows = search rules in
-    by_variable c.args.clause.now.rows c.from_vec.result same (c.requires.numbered linear)
+pub returns-clause-good : goal.returns-clause-good
+returns-clause-good g c = ok_on c.decided.result (of_cert c.args.mode c.args.turns c.args.clause.now.rows (IsGood c.args.clause.now.rows) (λ x d. d.good)) c.decided.ensures
 
-pub returns-then-are_linear-clause-small : goal.returns-then-are_linear-clause-small
-returns-then-are_linear-clause-small g c =
-    let same : c.from_vec.result ≡ point_of c.args.clause.now.rows = search rules in
-    let tame : IsTame c.args.clause.now.rows = search rules in
-    let rows : AreRows c.args.clause.now.rows = search rules in
-    subst (λ (zs : List ℤ). AllByRecursion IsSmall zs) (sym same) (point_small c.args.clause.now.rows rows tame)
+pub returns-clause-makes : goal.returns-clause-makes
+returns-clause-makes g c = ok_on c.decided.result (of_cert c.args.mode c.args.turns c.args.clause.now.rows (λ x. MakesCert x.steps x.close) (λ x d. d.makes)) c.decided.ensures
+
+pub returns-clause-shallow : goal.returns-clause-shallow
+returns-clause-shallow g c = ok_on c.decided.result (of_cert c.args.mode c.args.turns c.args.clause.now.rows (λ x. cert_depth x ≤ 4000) (λ x d. d.shallow)) c.decided.ensures
+
+pub returns-clause-pointless : goal.returns-clause-pointless
+returns-clause-pointless g c = ok_on c.decided.result (of_cert c.args.mode c.args.turns c.args.clause.now.rows (λ x. HasPoint c.args.mode c.args.turns c.args.clause.now.rows → ⊥) (λ x d. d.pointless)) c.decided.ensures
+
+pub returns-clause-pointed : goal.returns-clause-pointed
+returns-clause-pointed g c = ok_on c.decided.result (of_point c.args.mode c.args.turns c.args.clause.now.rows (λ zs y. HasPoint c.args.mode c.args.turns c.args.clause.now.rows) (λ zs y d. d.pointed)) c.decided.ensures
+
+pub returns-clause-one_each : goal.returns-clause-one_each
+returns-clause-one_each g c = ok_on c.decided.result (of_point c.args.mode c.args.turns c.args.clause.now.rows (λ zs y. length zs ≡ length (variables_of c.args.clause.now.rows)) (λ zs y d. d.one_each)) c.decided.ensures
+
+pub returns-clause-values : goal.returns-clause-values
+returns-clause-values g c = ok_on c.decided.result (of_point c.args.mode c.args.turns c.args.clause.now.rows (λ zs y. (v : ℕ) → v < length zs → point_of zs v ≡ clause_point c.args.mode c.args.turns c.args.clause.now.rows v) (λ zs y d. d.values)) c.decided.ensures
+
+pub returns-clause-small : goal.returns-clause-small
+returns-clause-small g c = ok_on c.decided.result (of_point c.args.mode c.args.turns c.args.clause.now.rows (λ zs y. AllByRecursion IsSmall zs) (λ zs y d. d.small)) c.decided.ensures
+
+pub returns-clause-solves : goal.returns-clause-solves
+returns-clause-solves g c = ok_on c.decided.result (of_point c.args.mode c.args.turns c.args.clause.now.rows (λ zs y. Solves (point_of zs) c.args.clause.now.rows) (λ zs y d. d.solves)) c.decided.ensures
+
+pub returns-clause-over : goal.returns-clause-over
+returns-clause-over g c = ok_on c.decided.result (of_point c.args.mode c.args.turns c.args.clause.now.rows (λ zs y. y ≡ Over) (λ zs y d. d.over)) c.decided.ensures
+
+pub returns-clause-unsettled : goal.returns-clause-unsettled
+returns-clause-unsettled g c = ok_on c.decided.result (of_left c.args.mode c.args.turns c.args.clause.now.rows (λ y. IsSettled c.args.mode c.args.turns c.args.clause.now.rows → ⊥) (λ y d. d.unsettled)) c.decided.ensures
+
+pub returns-clause-why : goal.returns-clause-why
+returns-clause-why g c = ok_on c.decided.result (of_left c.args.mode c.args.turns c.args.clause.now.rows (WhyOf c.args.mode c.args.turns c.args.clause.now.rows) (λ y d. d.reason)) c.decided.ensures
