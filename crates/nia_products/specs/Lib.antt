@@ -1,0 +1,4 @@
+pub mod Squares
+pub mod Products
+pub mod Enriching
+pub mod machine
