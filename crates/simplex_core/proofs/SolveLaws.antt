@@ -12,7 +12,7 @@ use Rattle.simplex_core.specs.Rows.{unknowns, AreWide, IsPoint}
 use Rattle.simplex_core.specs.Form.{at, Among, one_of, Line, basis_of, IsForm}
 use Rattle.simplex_core.specs.Walk.{is_equality, shortfall, IsBroken, CanMend, IsDue, Leads, IsWalk, AreNarrow, IsNarrow, choose}
 use Rattle.simplex_core.specs.Farkas.{IsFarkas}
-use Rattle.simplex_core.specs.Solved.{IfPoint, IfFarkas, IfTurns, IfSize, EndsDue, EndsWide, AreFormsNarrow, IsAnswer}
+use Rattle.simplex_core.specs.Solved.{IfPoint, IfFarkas, IfTurns, IfSize, EndsDue, EndsWide, AreFormsNarrow, LeavesTurns, IsAnswer}
 use Rattle.simplex_core.specs.machine.Tableau.{turned, pivoted, first_lines, slacks_of, NoneBroken, NoneMends, line_at, IsLeastAt, IsFirstMender, AreValues}
 use Rattle.simplex_core.proofs.ExchangeLaws.{same_or_not}
 use Rattle.simplex_core.proofs.FormLaws.{mender_nonzero, next_form, turn}
@@ -81,6 +81,16 @@ along_next rows n turns lines ps left i p h some least first e =
 
 pub along_walk : (rows : List LinRow) (n turns : ℕ) (lines : List Line) (ps : List Pivot) (left : ℕ) → AreWide n rows → IsAlong rows n turns lines ps left → IsWalk n rows ps lines
 along_walk rows n turns lines ps left w h = (first_lines n (length rows) 0 rows, first_form n rows w, first_basis n rows, h.leads)
+
+-- what it leaves of the turns
+pub along_left : (rows : List LinRow) (n turns : ℕ) (lines : List Line) (ps : List Pivot) (left : ℕ) → n ≡ unknowns rows → AreWide n rows → IsAlong rows n turns lines ps left
+    → LeavesTurns rows turns left
+along_left rows n turns lines ps left e w h = record {
+  pivots = ps;
+  form = lines;
+  walk = subst (λ (k : ℕ). IsWalk k rows ps lines) e (along_walk rows n turns lines ps left w h);
+  count = h.count;
+}
 
 narrow_or_wide : (c : ℤ) → (unsigned_abs c < 2 ^ 30) ⊎ (2 ^ 30 ≤ unsigned_abs c)
 narrow_or_wide c = grind (arith, ints)

@@ -1,8 +1,9 @@
 -- What the answers of the simplex say.
-use Rattle.std.specs.Prelude.{◌≡◌, ℕ, ◌^◌, ◌≤◌, List, length, ℤ, unsigned_abs}
+use Rattle.std.specs.Prelude.{◌≡◌, ℕ, ◌+◌, ◌^◌, ◌≤◌, List, length, ℤ, unsigned_abs}
 use Rattle.simplex_core.specs.declared.row.LinRow.{LinRow}
 use Rattle.simplex_core.specs.declared.solved.Pivot.{Pivot}
 use Rattle.simplex_core.specs.declared.solved.Solved.{Solved}
+use Rattle.simplex_core.specs.declared.solved.Walked.{Walked}
 use Rattle.simplex_core.specs.declared.solved.Solved.TheVariants.{Point, Farkas, Turns, Size}
 use Rattle.simplex_core.specs.Rows.{unknowns, IsPoint}
 use Rattle.simplex_core.specs.Form.{at, Among, Line, IsForm}
@@ -54,3 +55,13 @@ IsAnswer rows turns (Point xs) = IsPoint rows xs.items
 IsAnswer rows turns (Farkas ms) = IsFarkas rows ms.items × AreNarrow ms.items
 IsAnswer rows turns (Turns ps) = EndsDue rows turns ps.items
 IsAnswer rows turns (Size ps) = EndsWide rows turns ps.items
+
+-- a walk that leaves so many of the turns
+pub record LeavesTurns (rows : List LinRow) (turns left : ℕ) : Type 0 where
+  pub pivots : List Pivot
+  pub form : List Line
+  pub walk : IsWalk (unknowns rows) rows pivots form
+  pub count : length pivots + left ≡ turns
+
+abbrev pub IsWalked : List LinRow → ℕ → Walked → Type 0
+IsWalked rows turns w = IsAnswer rows turns w.solved × LeavesTurns rows turns w.left

@@ -20,5 +20,5 @@ mod tableau;
 
 pub use law::{few_pivots, no_return};
 pub use row::LinRow;
-pub use simplex::solve;
-pub use solved::{Pivot, Solved};
+pub use simplex::{solve, solve_within};
+pub use solved::{Pivot, Solved, Walked};

@@ -20,3 +20,10 @@ pub enum Solved {
     /// The pivots of a walk to a basis whose form has a number of magnitude at least 2^30.
     Size(Vec<Pivot>),
 }
+
+/// What the simplex finds within its turns, and how many of them are left.
+#[derive(Debug, Drop)]
+pub struct Walked {
+    pub solved: Solved,
+    pub left: u32,
+}

@@ -5,7 +5,7 @@ use Rattle.simplex_core.specs.Form.{one_of, Line}
 use Rattle.simplex_core.specs.Walk.{AreNarrow, IsNarrow, CanMend}
 use Rattle.simplex_core.specs.Farkas.{IsFarkas}
 use Rattle.simplex_core.specs.machine.Tableau.{turned, pivoted, slacks_of, NoneBroken, line_at, IsLeastAt, IsFirstMender, AreValues}
-use Rattle.simplex_core.proofs.SolveLaws.{IsAlong, along_start, along_next, size_end, turns_end, point_end, farkas_end}
+use Rattle.simplex_core.proofs.SolveLaws.{IsAlong, along_start, along_next, along_left, size_end, turns_end, point_end, farkas_end}
 use Rattle.simplex_core.proofs.simplex.walk.Goals as goal
 use Rattle.mm_num.proofs.BoolLaws.{never}
 
@@ -16,16 +16,19 @@ bases-init c =
     (along_start c.args.rows.now c.args.width c.args.turns c.requires.wide))
 
 pub returns-then-not-is_narrow : goal.returns-then-not-is_narrow
-returns-then-not-is_narrow c =
-    size_end c.args.rows.now c.args.width c.args.turns c.bases.lines.items c.bases.pivots.items c.bases.left c.requires.width c.requires.wide c.bases.invariant
-    (λ narrow. never (sym c.if-not-is_narrow.true ∙ c.is_narrow.ensures.1 (subst IsNarrow (sym c.deref.ensures.value) narrow)))
+returns-then-not-is_narrow c = (
+  size_end c.args.rows.now c.args.width c.args.turns c.bases.lines.items c.bases.pivots.items c.bases.left c.requires.width c.requires.wide c.bases.invariant
+      (λ narrow. never (sym c.if-not-is_narrow.true ∙ c.is_narrow.ensures.1 (subst IsNarrow (sym c.deref.ensures.value) narrow))),
+  along_left c.args.rows.now c.args.width c.args.turns c.bases.lines.items c.bases.pivots.items c.bases.left c.requires.width c.requires.wide c.bases.invariant,
+)
 
 pub returns-in_default : goal.returns-in_default
-returns-in_default c =
-    let lines = c.bases.lines.items in
-    point_end c.args.rows.now c.args.width c.bases.lines.items c.in_ok-point.field-0.items c.requires.width c.requires.wide c.bases.invariant.form
-    (subst (NoneBroken c.args.width c.args.rows.now) c.deref-in-bases.ensures.value c.in_default.ensures) c.in_ok-point.ensures.count
-    (subst (λ (ls : List Line). AreValues (one_of c.args.width c.args.rows.now) ls 0 c.in_ok-point.field-0.items) c.deref-in_default.ensures.value c.in_ok-point.ensures.values)
+returns-in_default c = (
+  point_end c.args.rows.now c.args.width c.bases.lines.items c.in_ok-point.field-0.items c.requires.width c.requires.wide c.bases.invariant.form
+      (subst (NoneBroken c.args.width c.args.rows.now) c.deref-in-bases.ensures.value c.in_default.ensures) c.in_ok-point.ensures.count
+      (subst (λ (ls : List Line). AreValues (one_of c.args.width c.args.rows.now) ls 0 c.in_ok-point.field-0.items) c.deref-in_default.ensures.value c.in_ok-point.ensures.values),
+  along_left c.args.rows.now c.args.width c.args.turns c.bases.lines.items c.bases.pivots.items c.bases.left c.requires.width c.requires.wide c.bases.invariant,
+)
 
 pub returns-in_default-first_mender : goal.returns-in_default-first_mender
 returns-in_default-first_mender c =
@@ -40,10 +43,12 @@ returns-in_default-first_mender c =
     get_or_read lines i c.index-in_default-first_mender.result.now least.inside c.index-in_default-first_mender.ensures (0, []) in
     let narrow : IsNarrow c.bases.lines.items = subst IsNarrow c.deref.ensures.value (c.is_narrow.ensures.0 c.if-not-is_narrow.false) in
     let found : c.in_ok-found.found.items ≡ slacks_of n (length rows) (turned (n + length rows) (line_at lines i).1) =
-    c.in_ok-found.ensures ∙ ap (λ (l : Line). slacks_of n (length rows) (turned (n + length rows) l.1)) taken in
-    subst (λ ms. IsFarkas rows ms × AreNarrow ms) (sym found)
-    (farkas_end rows n lines i c.requires.wide c.bases.invariant.form narrow least
-    (subst (λ (l : Line). (e : ℕ) → e < one_of n rows → CanMend n rows l e → ⊥) tested c.in_default-first_mender.ensures))
+    c.in_ok-found.ensures ∙ ap (λ (l : Line). slacks_of n (length rows) (turned (n + length rows) l.1)) taken in (
+      subst (λ ms. IsFarkas rows ms × AreNarrow ms) (sym found)
+          (farkas_end rows n lines i c.requires.wide c.bases.invariant.form narrow least
+          (subst (λ (l : Line). (e : ℕ) → e < one_of n rows → CanMend n rows l e → ⊥) tested c.in_default-first_mender.ensures)),
+      along_left c.args.rows.now c.args.width c.args.turns c.bases.lines.items c.bases.pivots.items c.bases.left c.requires.width c.requires.wide c.bases.invariant,
+    )
 
 pub returns-then-left-eq0 : goal.returns-then-left-eq0
 returns-then-left-eq0 c =
@@ -53,10 +58,12 @@ returns-then-left-eq0 c =
     let i = c.in-Some.place in
     let least : IsLeastAt c.args.width c.args.rows.now c.bases.lines.items c.in-Some.place =
     subst (λ (ls : List Line). IsLeastAt n rows ls i) c.deref-in-bases.ensures.value c.in-Some.ensures in
-    let tested : c.index.result.now ≡ line_at lines i = get_or_read lines i c.index.result.now least.inside c.index.ensures (0, []) in
-    turns_end rows n c.args.turns lines c.bases.pivots.items i c.in-Some-first_mender.enters c.requires.width c.requires.wide
-    (subst (IsAlong rows n c.args.turns lines c.bases.pivots.items) c.if-left-eq0.true c.bases.invariant) least
-    (subst (λ (l : Line). IsFirstMender n rows l c.in-Some-first_mender.enters) tested c.in-Some-first_mender.ensures)
+    let tested : c.index.result.now ≡ line_at lines i = get_or_read lines i c.index.result.now least.inside c.index.ensures (0, []) in (
+      turns_end rows n c.args.turns lines c.bases.pivots.items i c.in-Some-first_mender.enters c.requires.width c.requires.wide
+          (subst (IsAlong rows n c.args.turns lines c.bases.pivots.items) c.if-left-eq0.true c.bases.invariant) least
+          (subst (λ (l : Line). IsFirstMender n rows l c.in-Some-first_mender.enters) tested c.in-Some-first_mender.ensures),
+      along_left c.args.rows.now c.args.width c.args.turns c.bases.lines.items c.bases.pivots.items c.bases.left c.requires.width c.requires.wide c.bases.invariant,
+    )
 
 pub bases-preserved : goal.bases-preserved
 bases-preserved c =
