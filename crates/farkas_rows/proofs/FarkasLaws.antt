@@ -45,5 +45,9 @@ all_at : (x : ℕ → ℤ) (rows : List PRow) → Solves x rows → AllByRecursi
 all_at x [] h = tt
 all_at x (r ∷ rows) h = (subst (λ z. Compares r.op z) (at_point x r.poly) h.0, all_at x rows h.1)
 
+-- an integer point is a rational one
+pub no_integer : (rows : List PRow) → HasNoRationalSolution rows → HasNoSolution rows
+no_integer rows n x h = n (mono_value x) (omega (arith, ints)) (all_at x rows h)
+
 pub no_solution : (rows : List PRow) (ms : List ℤ) → IsFarkas rows ms → HasNoSolution rows
-no_solution rows ms f x h = no_rational rows ms f (mono_value x) (omega (arith, ints)) (all_at x rows h)
+no_solution rows ms f = no_integer rows (no_rational rows ms f)

@@ -1,3 +1,4 @@
+pub mod FractionLaws
 pub mod FarkasLaws
 pub mod CombinedLaws
 pub mod FormBoundLaws

@@ -7,5 +7,6 @@ ghost use Rattle.farkas_rows.specs.Combining.{IsFarkas, HasNoRationalSolution};
 /// an unknown, and so no integer point does.
 pub fn farkas()
     ensures rationals { (rows : List PRow) (ms : List ℤ) → IsFarkas rows ms → HasNoRationalSolution rows }
+    ensures whole { (rows : List PRow) → HasNoRationalSolution rows → HasNoSolution rows }
     ensures integers { (rows : List PRow) (ms : List ℤ) → IsFarkas rows ms → HasNoSolution rows }
 {}
