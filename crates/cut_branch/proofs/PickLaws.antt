@@ -12,11 +12,13 @@ use Rattle.cert_kit.specs.Variables.{variables_of}
 use Rattle.cert_kit.proofs.BoundedLaws.{hyp_bounded}
 use Rattle.cert_kit.proofs.FlatLaws.{flat_hyp}
 use Rattle.cut_branch.specs.declared.scaled.Scaled.{Scaled}
-use Rattle.cut_branch.specs.Points.{AreLinear, denominator, numerators, weight_over}
+use Rattle.farkas_rows.specs.Fractions.{denominator, numerators}
+use Rattle.farkas_rows.proofs.FractionLaws.{positive_denominator}
+use Rattle.cut_branch.specs.Points.{AreLinear, weight_over}
 use Rattle.cut_branch.specs.Picking.{IsCutOff, IsBetween}
 use Rattle.cut_branch.specs.machine.Scaling.{AreOver, IsScaled, IsFalseOver, HasFalseCut, IsSplitAt}
 use Rattle.cut_branch.specs.machine.Combining.{HasFalseRow}
-use Rattle.cut_branch.proofs.ScalingLaws.{over_product, product_above, false_at}
+use Rattle.cut_branch.proofs.ScalingLaws.{over_product, false_at}
 use Rattle.cut_branch.proofs.PlaceLaws.{variables_rise, place_is}
 
 pub given : {A : Type 0} → (P : A → Type 0) (o : Option A) (x : A) → IfSome o P → o ≡ Some x → P x
@@ -66,5 +68,5 @@ split_between rows xs i v x p fractions inside here e s =
     let place = place_is vars v i (variables_rise rows) inside here in
     let value : w ((v, 1) ∷ []) *ℤ x.1 ≡ x.0 *ℤ w [] =
     ap (λ (k : ℕ). slice_index_or (numerators xs) k (pos 0) *ℤ x.1) place ∙ over_at (denominator xs) (numerators xs) xs i x (over_product xs) e in
-    let b = s.between w (product_above xs fractions) value in
+    let b = s.between w (positive_denominator xs fractions) value in
     record { above = b.0; below = b.1 }

@@ -15,7 +15,9 @@ use Rattle.cert_kit.specs.Row.{Compares}
 use Rattle.cert_kit.specs.Cut.{cut_of}
 use Rattle.cert_kit.specs.Variables.{variables_of, place_of}
 use Rattle.cut_branch.specs.declared.scaled.Scaled.{Scaled}
-use Rattle.cut_branch.specs.Points.{denominator, numerators, weight_over, value_over, value_at, HoldsAt}
+use Rattle.farkas_rows.specs.Fractions.{denominator, numerators}
+use Rattle.farkas_rows.proofs.FractionLaws.{positive_denominator}
+use Rattle.cut_branch.specs.Points.{weight_over, value_over, value_at, HoldsAt}
 use Rattle.cut_branch.specs.machine.Scaling.{AreOver, IsScaled, IsFalseOver}
 
 -- ---- the product of the denominators is a common one
@@ -32,10 +34,6 @@ over_product (x ∷ xs) = (
   assoc x.0 (denominator xs) x.1 ∙ ap (λ z. x.0 *ℤ z) (*ℤ_comm (denominator xs) x.1),
   over_multiple x.1 (denominator xs) (numerators xs) xs (over_product xs),
 )
-
-pub product_above : (xs : List (ℤ × ℤ)) → AllByRecursion IsFraction xs → pos 0 <ℤ denominator xs
-product_above [] a = omega (arith, ints)
-product_above (x ∷ xs) a = product_positive x.1 (denominator xs) a.0.positive (product_above xs a.1)
 
 pub length_over : (h : ℤ) (ns : List ℤ) (xs : List (ℤ × ℤ)) → AreOver h ns xs → length ns ≡ length xs
 length_over h [] [] a = refl
@@ -108,7 +106,7 @@ pub false_at : (rows : List PRow) (xs : List (ℤ × ℤ)) (s : Scaled) (r : PRo
 false_at rows xs s r h f c =
     let vars = variables_of rows in
     let over = over_product xs in
-    let above = product_above xs h.fractions in
+    let above = positive_denominator xs h.fractions in
     let cross = linear_crossed (weight_over vars s.den s.nums.items) (weight_over vars (denominator xs) (numerators xs)) s.den (denominator xs) (cut_of r).poly
     (weights_crossed vars s.den (denominator xs) s.nums.items (numerators xs) xs h.over over h.fractions) in
     f (same_sign (cut_of r).op (value_over vars s.den s.nums.items (cut_of r).poly) (value_at rows xs (cut_of r).poly) s.den (denominator xs) h.positive above cross c)

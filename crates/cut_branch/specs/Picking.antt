@@ -11,7 +11,8 @@ use Rattle.cert_kit.specs.Acceptance.{below_bounds}
 use Rattle.cert_kit.specs.Depth.{psatz_depth, has_constants_in_range}
 use Rattle.cut_branch.specs.declared.types.Pick.{Pick}
 use Rattle.cut_branch.specs.declared.types.Pick.TheVariants.{Cut, Split, Integral}
-use Rattle.cut_branch.specs.Points.{denominator, value_at, HoldsAt}
+use Rattle.farkas_rows.specs.Fractions.{denominator}
+use Rattle.cut_branch.specs.Points.{value_at, HoldsAt}
 
 abbrev pub IfCut : (Psatz → Type 0) → Pick → Type 0
 IfCut P (Cut e) = P e

@@ -1,25 +1,16 @@
 -- Rational points of linear rows, as numerators over one common denominator.
-use Rattle.std.specs.Prelude.{◌≡◌, ℕ, ◌≤◌, ℤ, pos, ◌*ℤ◌, List, [], ◌∷◌, map}
+use Rattle.std.specs.Prelude.{◌≡◌, ℕ, ◌≤◌, ℤ, pos, List, [], ◌∷◌}
 use Rattle.std.specs.List.{AllByRecursion}
 use Rattle.mm_poly.specs.declared.term.Term.{Term}
 use Rattle.mm_poly.specs.Poly.{linear_value, degree}
 use Rattle.cert_kit.specs.declared.row.PRow.{PRow}
 use Rattle.cert_kit.specs.Row.{Compares}
 use Rattle.cert_kit.specs.Variables.{point_over, variables_of}
+use Rattle.farkas_rows.specs.Fractions.{denominator, numerators}
 
 -- every unknown is a variable
 abbrev pub AreLinear : List PRow → Type 0
 AreLinear rows = AllByRecursion (λ (r : PRow). degree r.poly ≤ 1) rows
-
--- the product of the denominators
-abbrev pub denominator : List (ℤ × ℤ) → ℤ
-denominator [] = pos 1
-denominator (x ∷ xs) = x.1 *ℤ denominator xs
-
--- the values' numerators over it
-abbrev pub numerators : List (ℤ × ℤ) → List ℤ
-numerators [] = []
-numerators (x ∷ xs) = (x.0 *ℤ denominator xs) ∷ map (λ n. x.1 *ℤ n) (numerators xs)
 
 -- what a monomial of degree at most 1 counts for, where variables have these numerators over a denominator
 abbrev pub weight_over : List ℕ → ℤ → List ℤ → List (ℕ × ℕ) → ℤ

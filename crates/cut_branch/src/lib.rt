@@ -13,5 +13,5 @@ mod splitting;
 mod summing;
 mod types;
 
-pub use picking::pick;
+pub use picking::{pick, pick_split};
 pub use types::Pick;

@@ -1,4 +1,4 @@
-ghost use Rattle.std.specs.Prelude.{◌≡◌, ◌↔◌, pos, ◌<ℤ◌, length, IfOk, IfSome};
+ghost use Rattle.std.specs.Prelude.{◌≡◌, ◌↔◌, pos, ◌<ℤ◌, length, IfOk, IfSome, IsNone};
 ghost use Rattle.std.specs.List.Sorted.{IsStrictlySortedBy};
 ghost use Rattle.std.specs.Ordering.{nat_cmp};
 ghost use Rattle.mm_num.specs.Small.{IsSmall};
@@ -41,6 +41,25 @@ pub fn pick(alloc: Global, clause: &Clause, point: &[Frac]) -> Result<Pick, Allo
     }
     let poly = split_off(alloc, rows, &vars, point)?;
     Ok(Pick::Split(poly))
+}
+
+/// The split that comes next at such a point where no cut is wanted; none where all values are whole.
+pub fn pick_split(
+    alloc: Global,
+    clause: &Clause,
+    point: &[Frac],
+) -> Result<Option<Poly>, AllocError>
+    requires { length point.now ≡ length (variables_of clause.now.rows) }
+    ensures integral { IfOk result (λ found. IsNone found ↔ IsIntegral point.now) }
+    ensures split { IfOk result (λ found. IfSome found (IsBetween clause.now.rows point.now)) }
+    ensures split_fits { IfOk result (λ found. IfSome found FitsSplit) }
+{
+    if is_integral(point) {
+        return Ok(None);
+    }
+    let rows = clause.rows.as_slice();
+    let vars = variables(alloc, rows)?;
+    Ok(Some(split_off(alloc, rows, &vars, point)?))
 }
 
 // An expression whose row's cut is false at the point.
