@@ -1,0 +1,11 @@
+pub mod UnknownLaws
+pub mod FormLaws
+pub mod SumLaws
+pub mod FractionLaws
+pub mod PointLaws
+pub mod MultiplierLaws
+pub mod RoomLaws
+pub mod ChooseLaws
+pub mod ReachLaws
+pub mod EndLaws
+pub mod LinearLaws
