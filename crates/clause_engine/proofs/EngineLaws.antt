@@ -22,12 +22,13 @@ use Rattle.fm_elim.specs.Answers.{AreNumbered}
 use Rattle.fm_elim.proofs.SolveLaws.{solved_by_numbers}
 use Rattle.box_enum.specs.Box.{Side, box_of, bounds_of, is_box_within, is_boxed, IsBoxed, first_point}
 use Rattle.box_enum.proofs.WithinLaws.{first_solves}
+use Rattle.farkas_rows.proofs.FarkasLaws.{no_integer}
 use Rattle.clause_engine.specs.declared.outcome.Outcome.{Outcome}
 use Rattle.clause_engine.specs.declared.outcome.Outcome.TheVariants as outcomes
 use Rattle.clause_engine.specs.declared.outcome.Why.{Why}
 use Rattle.clause_engine.specs.declared.outcome.Why.TheVariants as whys
 use Rattle.clause_engine.specs.Outcome.{IfCert, IfPoint, IfUnsettled}
-use Rattle.clause_engine.specs.Settled.{IsNumbered, IsSettled, HasBoxPoint, HasPoint, box_point, clause_point, WhyOf}
+use Rattle.clause_engine.specs.Settled.{IsNumbered, IsSettled, HasBoxPoint, HasPoint, box_point, clause_point, WhyOf, IsReason, IsPromised}
 use Rattle.clause_engine.specs.machine.Deciding.{IsRefuted, IsSolved, IsLeft, Decides}
 use Rattle.clause_engine.proofs.NumberedLaws.{by_number, solved_by_number, count_unknowns, are_numbered}
 use Rattle.clause_engine.proofs.SmallLaws.{point_small}
@@ -78,26 +79,24 @@ pub tame_solved : (mode : Mode) (turns : ℕ) (rows : List PRow) (zs : List ℤ)
 tame_solved mode turns rows zs n a l t e b =
     let k : AreNumbered rows = are_numbered rows n a l in
     record {
-      pointed = inr (b, record { linear = l; ends = t.0; tame = t.1 });
       one_each = one_each rows zs a l e;
-      values = λ v h. by_variable rows zs e k v h ∙ sym (if_not_true (is_boxed turns rows) (box_point rows v) (point_at rows v) b);
+      values = λ p v h. by_variable rows zs e k v h ∙ sym (if_not_true (is_boxed turns rows) (box_point rows v) (point_at rows v) b);
       small = subst (λ (xs : List ℤ). AllByRecursion IsSmall xs) (sym e) (point_small rows a t.1);
       solves = solved_by_numbers rows zs a l k t.0 e;
-      over = refl;
+      reason = inl (inr (b, record { linear = l; ends = t.0; tame = t.1 }), refl);
     }
 
 pub box_solved : (mode : Mode) (turns : ℕ) (rows : List PRow) (zs : List ℤ) → IsNumbered rows → IsBoxed turns rows × (first_point rows ≡ Some zs) → length zs ≡ length (variables_of rows) → AllByRecursion IsSmall zs
     → Solves (point_over (variables_of rows) zs) rows
     → IsSolved mode turns rows zs whys.Over
 box_solved mode turns rows zs n b k s p = record {
-  pointed = inl (record { boxed = b.0; values = zs; first = b.1 });
   one_each = k;
-  values = λ v h.
+  values = λ q v h.
       let l : v < length (variables_of rows) = omega (arith, h, k) in
       by_number rows zs v n l ∙ ap (λ (o : Option (List ℤ)). point_over (variables_of rows) (unwrap_or o []) v) (sym b.1) ∙ sym (if_true (is_boxed turns rows) (box_point rows v) (point_at rows v) b.0);
   small = s;
   solves = solved_by_number rows zs n p;
-  over = refl;
+  reason = inl (inl (record { boxed = b.0; values = zs; first = b.1 }), refl);
 }
 
 -- ---- a clause that isn't settled
@@ -138,6 +137,25 @@ pub settled_by_point : (mode : Mode) (turns : ℕ) (rows : List PRow) → HasPoi
 settled_by_point mode turns rows (inl h) = inr (inl h.boxed)
 settled_by_point mode turns rows (inr h) = inr (inr h.1)
 
+-- ---- a simplex's certificate for a clause that isn't settled
+
+pub relaxed_refuted : (mode : Mode) (turns : ℕ) (rows : List PRow) (why : Why) (c : Cert) → IsLeft mode turns rows why → IsGood rows c → MakesCert c.steps c.close → cert_depth c ≤ 4000 → IsRefuted mode turns rows c
+relaxed_refuted mode turns rows why c l g m d = record { good = g; makes = m; shallow = d; pointless = λ p. l.unsettled (settled_by_point mode turns rows p) }
+
+-- values that a search finds for such a clause
+pub searched_solved : (mode : Mode) (turns : ℕ) (rows : List PRow) (why : Why) (zs : List ℤ) → IsLeft mode turns rows why → length zs ≡ length (variables_of rows) → AllByRecursion IsSmall zs → Solves (point_by zs) rows
+    → IsSolved mode turns rows zs why
+searched_solved mode turns rows why zs l k s h = record {
+  one_each = k;
+  values = λ p. absurd (l.unsettled (settled_by_point mode turns rows p));
+  small = s;
+  solves = h;
+  reason = inr (l.unsettled, l.reason);
+}
+
+pub promised_unsolvable : (turns : ℕ) (rows : List PRow) → IsPromised turns rows → HasNoSolution rows
+promised_unsolvable turns rows p = no_integer rows p.refutable.none
+
 -- ---- a clause without a box
 
 pub not_boxed : (turns : ℕ) (rows : List PRow) → option_map bounds_of (box_of rows) ≡ None → IsBoxed turns rows → ⊥
@@ -159,7 +177,7 @@ of_point mode turns rows P f (outcomes.Cert c) d = tt
 of_point mode turns rows P f (outcomes.Point zs why) d = f zs why d
 of_point mode turns rows P f (outcomes.Unsettled why) d = tt
 
-pub of_left : (mode : Mode) (turns : ℕ) (rows : List PRow) (P : Why → Type 0) → ((why : Why) → IsLeft mode turns rows why → P why) → (o : Outcome) → Decides mode turns rows o → IfUnsettled P o
+pub of_left : (mode : Mode) (turns : ℕ) (rows : List PRow) (P : Why → Type 0) → ((why : Why) → IsLeft mode turns rows why × (IsPromised turns rows → ⊥) → P why) → (o : Outcome) → Decides mode turns rows o → IfUnsettled P o
 of_left mode turns rows P f (outcomes.Cert c) d = tt
 of_left mode turns rows P f (outcomes.Point zs why) d = tt
 of_left mode turns rows P f (outcomes.Unsettled why) d = f why d

@@ -1,4 +1,3 @@
-pub mod LinearLaws
 pub mod NumberedLaws
 pub mod SmallLaws
 pub mod EngineLaws

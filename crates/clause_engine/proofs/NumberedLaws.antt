@@ -12,7 +12,7 @@ use Rattle.fm_elim.specs.Unknowns.{unknowns}
 use Rattle.fm_elim.specs.Points.{AreRows, AreLinear}
 use Rattle.fm_elim.specs.Answers.{AreNumbered}
 use Rattle.clause_engine.specs.Settled.{IsNumbered}
-use Rattle.clause_engine.proofs.LinearLaws.{single, rows_unknowns}
+use Rattle.relaxation.proofs.LinearLaws.{single, rows_unknowns}
 
 -- ---- the numbers themselves
 

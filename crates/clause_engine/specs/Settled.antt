@@ -8,6 +8,7 @@ use Rattle.fm_elim.specs.Tidy.{Contra, Point, Grey, Over}
 use Rattle.fm_elim.specs.Elimination.{elimination}
 use Rattle.fm_elim.specs.Points.{IsTame, AreLinear, point_at}
 use Rattle.box_enum.specs.Box.{is_boxed, IsBoxed, first_point}
+use Rattle.relaxation.specs.Relaxing.{IsRefutable}
 use Rattle.clause_engine.specs.declared.outcome.Why.{Why}
 use Rattle.clause_engine.specs.declared.outcome.Why.TheVariants as whys
 
@@ -48,3 +49,14 @@ clause_point mode turns rows v = if is_boxed turns rows then box_point rows v el
 abbrev pub WhyOf : Mode → ℕ → List PRow → Why → Type 0
 WhyOf mode turns rows whys.Over = (elimination rows ≡ Over) ⊎ ((elimination rows ≡ Point) × (IsTame rows → ⊥))
 WhyOf mode turns rows whys.Grey = (elimination rows ≡ Grey) ⊎ ((elimination rows ≡ Point) × IsTame rows)
+
+-- why the goal of a point that solves the clause may be unsettled: over for the point that is due, and where none is what
+-- the elimination says
+abbrev pub IsReason : Mode → ℕ → List PRow → Why → Type 0
+IsReason mode turns rows why =
+    (HasPoint mode turns rows × (why ≡ whys.Over)) ⊎ ((IsSettled mode turns rows → ⊥) × WhyOf mode turns rows why)
+
+-- linear rows without rational solution, where a simplex tells so within the turns
+pub record IsPromised (turns : ℕ) (rows : List PRow) : Type 0 where
+  pub linear : AreLinear rows
+  pub refutable : IsRefutable turns rows
