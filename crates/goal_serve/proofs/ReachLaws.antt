@@ -20,14 +20,13 @@ use Rattle.clause_form.specs.Clauses.{clauses_of}
 use Rattle.clause_form.specs.Clauses.{IsNumbered as HasNumbers}
 use Rattle.clause_form.proofs.NumberingLaws.{clauses_numbered, clauses_rise}
 use Rattle.clause_engine.specs.declared.outcome.Why.{Why}
-use Rattle.clause_engine.specs.declared.outcome.Why.TheVariants as whys
-use Rattle.clause_engine.specs.Settled.{IsNumbered, IsSettled, HasPoint, clause_point, WhyOf}
+use Rattle.clause_engine.specs.Settled.{IsNumbered, IsSettled, HasPoint, clause_point, WhyOf, IsReason, IsPromised}
 use Rattle.clause_engine.proofs.NumberedLaws.{count_numbers}
-use Rattle.clause_engine.proofs.EngineLaws.{settled_by_point}
+use Rattle.clause_engine.proofs.EngineLaws.{settled_by_point, promised_unsolvable}
 use Rattle.goal_serve.specs.declared.answers.Shown.{Shown}
 use Rattle.goal_serve.specs.declared.trying.Reached.{Reached}
 use Rattle.goal_serve.specs.declared.trying.Reached.TheVariants as reached
-use Rattle.goal_serve.specs.Answering.{placed}
+use Rattle.goal_serve.specs.Answering.{placed, IsWitnessed, IsOpen}
 use Rattle.goal_serve.specs.machine.Trying.{IsClauseOf, IsReached, IsJudged}
 use Rattle.goal_serve.proofs.WitnessLaws.{IsFound, IsAssigned, in_range, not_witnessed}
 
@@ -48,15 +47,17 @@ pub cert_reached : (goal : Goal) (turns : ℕ) (n : Named) (s : Shown) → s.cla
 cert_reached goal turns n s e g f = (record { clause = e; good = g }, λ q. f q.has_point)
 
 -- neither a certificate nor a point
-pub open_reached : (goal : Goal) (turns : ℕ) (n : Named) (why : Why) → (IsSettled goal.mode turns n.clause.rows → ⊥) → WhyOf goal.mode turns n.clause.rows why → IsReached goal turns n (reached.Stays why)
-open_reached goal turns n why f w = (λ q. f (settled_by_point goal.mode turns n.clause.rows q.has_point), inl (f, w))
+pub open_reached : (goal : Goal) (turns : ℕ) (n : Named) (why : Why) → (IsSettled goal.mode turns n.clause.rows → ⊥) → WhyOf goal.mode turns n.clause.rows why
+    → (IsPromised turns n.clause.rows → ⊥)
+    → IsReached goal turns n (reached.Stays why)
+open_reached goal turns n why f w p = (λ q. f (settled_by_point goal.mode turns n.clause.rows q.has_point), (inl (f, w), p))
 
 -- a point
 pub one_value_each : (goal : Goal) (n : Named) (values : List ℤ) → IsClauseOf goal n → length values ≡ length (variables_of n.clause.rows) → length values ≡ length n.vars
 one_value_each goal n values c e = e ∙ count_variables n (has_numbers goal n c)
 
 pub is_found : (goal : Goal) (turns : ℕ) (n : Named) (values : List ℤ) → IsClauseOf goal n → length values ≡ length (variables_of n.clause.rows)
-    → ((v : ℕ) → v < length values → point_by values v ≡ clause_point goal.mode turns n.clause.rows v)
+    → (HasPoint goal.mode turns n.clause.rows → (v : ℕ) → v < length values → point_by values v ≡ clause_point goal.mode turns n.clause.rows v)
     → AllByRecursion IsSmall values
     → Solves (point_by values) n.clause.rows
     → IsFound goal turns n values
@@ -65,17 +66,20 @@ is_found goal turns n values c e f s h = record { one_each = one_value_each goal
 pub point_in_range : (goal : Goal) (turns : ℕ) (n : Named) (values : List ℤ) (a : Assignment) → IsWellFormed goal → IsClauseOf goal n → IsFound goal turns n values → IsAssigned goal n values a → IsInRange goal a
 point_in_range goal turns n values a w c f g = in_range goal turns n c.place values a w c.there (vars_rise goal n c) f g
 
-pub point_reached : (goal : Goal) (turns : ℕ) (n : Named) (values : List ℤ) (a : Assignment) (why : Why) (r : Reached) → IsWellFormed goal → IsClauseOf goal n → HasPoint goal.mode turns n.clause.rows
-    → IsFound goal turns n values
+open_at : (goal : Goal) (turns : ℕ) (n : Named) (why v : Why) → (IsWitnessed goal turns n → ⊥) → IsReason goal.mode turns n.clause.rows why → v ≡ why → IsOpen goal turns n v
+open_at goal turns n why v stays (inl h) e = inr (h.0, stays, e ∙ h.1)
+open_at goal turns n why v stays (inr h) e = inl (h.0, subst (WhyOf goal.mode turns n.clause.rows) (sym e) h.1)
+
+pub point_reached : (goal : Goal) (turns : ℕ) (n : Named) (values : List ℤ) (a : Assignment) (why : Why) (r : Reached) → IsWellFormed goal → IsClauseOf goal n → IsFound goal turns n values
     → IsAssigned goal n values a
-    → why ≡ whys.Over
+    → IsReason goal.mode turns n.clause.rows why
     → IsJudged goal a why r
     → IsReached goal turns n r
-point_reached goal turns n values a why (reached.Shown s) w c p f g o j = absurd j
-point_reached goal turns n values a why (reached.Refuted b) w c p f g o j = j
-point_reached goal turns n values a why (reached.Stays v) w c p f g o j =
+point_reached goal turns n values a why (reached.Shown s) w c f g o j = absurd j
+point_reached goal turns n values a why (reached.Refuted b) w c f g o j = j
+point_reached goal turns n values a why (reached.Stays v) w c f g o j =
     let stays = not_witnessed goal turns n c.place values a w c.there (vars_rise goal n c) f g j.1 in
-    (stays, inr (p, stays, j.0 ∙ o))
+    (stays, (open_at goal turns n why v stays o j.0, λ p. promised_unsolvable turns n.clause.rows p (point_by values) f.solves))
 
 pub is_assigned : (goal : Goal) (n : Named) (values : List ℤ) (a : Assignment) (bound : ℕ) (vars : List ℕ) (zs : List ℤ) → bound ≡ length goal.vars → vars ≡ n.vars → zs ≡ values → length a.values ≡ bound
     → ((v : ℕ) → v < bound → point_of a.values v ≡ placed vars (point_by zs) v)

@@ -27,14 +27,14 @@ use Rattle.cert_kit.specs.Variables.{place_of}
 use Rattle.clause_form.specs.Clauses.{clauses_of}
 use Rattle.clause_form.specs.Clauses.{Refutes as RefutesTranslated}
 use Rattle.clause_form.proofs.SolutionLaws.{refuted_back}
-use Rattle.clause_engine.specs.Settled.{clause_point}
+use Rattle.clause_engine.specs.Settled.{HasPoint, clause_point}
 use Rattle.goal_serve.specs.Answering.{placed, given_by, IsWitnessed}
 use Rattle.goal_serve.proofs.PlacingLaws.{placed_back, placed_same, value_small}
 
 -- what the engine says of the values of a clause's point
 pub record IsFound (goal : Goal) (turns : ℕ) (n : Named) (values : List ℤ) : Type 0 where
   pub one_each : length values ≡ length n.vars
-  pub given : (v : ℕ) → v < length values → point_by values v ≡ clause_point goal.mode turns n.clause.rows v
+  pub given : HasPoint goal.mode turns n.clause.rows → (v : ℕ) → v < length values → point_by values v ≡ clause_point goal.mode turns n.clause.rows v
   pub small : AllByRecursion IsSmall values
   pub solves : Solves (point_by values) n.clause.rows
 
@@ -100,5 +100,5 @@ not_witnessed goal turns n k values a w e s f g h q =
     let named = goal_named goal w in
     let to_x : eval_of (point_of a.values) goal.body ≡ eval_of x goal.body = eval_same (length goal.vars) (point_of a.values) x goal.body g.given named in
     let given : eval_of x goal.body ≡ eval_of (given_by goal turns n) goal.body = eval_same (length goal.vars) x (given_by goal turns n) goal.body
-    (λ v l. placed_same n.vars (point_by values) (clause_point goal.mode turns n.clause.rows) (λ i j. f.given i (omega (arith, f.one_each))) v) named in
+    (λ v l. placed_same n.vars (point_by values) (clause_point goal.mode turns n.clause.rows) (λ i j. f.given q.has_point i (omega (arith, f.one_each))) v) named in
     q.not_big (sym given ∙ big_there x goal.body fails (λ z. h (to_x ∙ z)))

@@ -20,7 +20,7 @@ use Rattle.clause_form.specs.Clauses.{clauses_of, number_of}
 use Rattle.box_enum.specs.Cube.{cube_of}
 use Rattle.clause_engine.specs.declared.outcome.Why.{Why}
 use Rattle.clause_engine.specs.declared.outcome.Why.TheVariants as whys
-use Rattle.clause_engine.specs.Settled.{IsSettled, HasPoint, clause_point, WhyOf}
+use Rattle.clause_engine.specs.Settled.{IsSettled, HasPoint, clause_point, WhyOf, IsPromised}
 use Rattle.goal_serve.specs.declared.answers.Shown.{Shown}
 use Rattle.goal_serve.specs.declared.answers.Kind.{Kind}
 use Rattle.goal_serve.specs.declared.answers.Kind.TheVariants as kinds
@@ -65,10 +65,14 @@ pub record IsWitnessed (goal : Goal) (turns : ℕ) (n : Named) : Type 0 where
   pub not_big : eval_of (given_by goal turns n) goal.body ≢ evals.Big
 
 -- it isn't settled, or its point doesn't witness
-abbrev pub MayStay : Goal → ℕ → Named → Why → Type 0
-MayStay goal turns n why =
+abbrev pub IsOpen : Goal → ℕ → Named → Why → Type 0
+IsOpen goal turns n why =
     ((IsSettled goal.mode turns n.clause.rows → ⊥) × WhyOf goal.mode turns n.clause.rows why)
     ⊎ (HasPoint goal.mode turns n.clause.rows × (IsWitnessed goal turns n → ⊥) × (why ≡ whys.Over))
+
+-- and it isn't one that a simplex is sure to refute
+abbrev pub MayStay : Goal → ℕ → Named → Why → Type 0
+MayStay goal turns n why = IsOpen goal turns n why × (IsPromised turns n.clause.rows → ⊥)
 
 -- the clause of this number stays
 abbrev pub StaysAt : Goal → ℕ → List Named → ℕ → Why → Type 0
