@@ -1,0 +1,5 @@
+pub mod Reading
+pub mod Reads
+pub mod Parts
+pub mod Kinds
+pub mod Steps
