@@ -12,6 +12,8 @@ pub enum Kind {
     Prove,
     /// The same for the goals after `; `, with so many turns as stand before it.
     Within,
+    /// What is said of each goal, without assignments, parted by `; `, and the status.
+    Said,
     /// The whole report, its line feeds as `%0a`, and the status.
     Report,
     /// How many certificates of the report `mm check` accepts with their rows, of how many.
@@ -90,6 +92,7 @@ fn kind_of(word: &str) -> Option<Kind> {
         "check" => Some(Kind::Check),
         "prove" => Some(Kind::Prove),
         "within" => Some(Kind::Within),
+        "said" => Some(Kind::Said),
         "report" => Some(Kind::Report),
         "accepted" => Some(Kind::Accepted),
         "words" => Some(Kind::Words),

@@ -38,6 +38,7 @@ fn answer_to<R: Threads + Sync>(rt: &R, alloc: Global, case: &Case) -> Result<Ve
         Kind::Check => check::line(rt, alloc, &input_of(alloc, case.input)?),
         Kind::Prove => prove::answers(rt, alloc, case.input),
         Kind::Within => prove::within(rt, alloc, case.input),
+        Kind::Said => prove::said(rt, alloc, case.input),
         Kind::Report => prove::report(rt, alloc, case.input),
         Kind::Accepted => prove::accepted(rt, alloc, case.input),
         Kind::Words => prove::asked(rt, alloc, case.input),

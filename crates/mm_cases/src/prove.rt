@@ -69,6 +69,19 @@ pub fn within<R: Threads + Sync>(
     answers_of(alloc, &written)
 }
 
+/// What is said of each goal, without assignments, parted by `; `, and the status.
+pub fn said<R: Threads + Sync>(rt: &R, alloc: Global, input: &str) -> Result<Vec<u8>, AllocError> {
+    let written = proved(rt, alloc, input)?;
+    let mut answer = Vec::new(alloc);
+    for line in String::from_utf8_lossy(alloc, &written.text)?.lines() {
+        if is_answer(line) && !line.contains(" := ") {
+            push_part(&mut answer, line.as_bytes())?;
+        }
+    }
+    written.push_status(alloc, &mut answer)?;
+    Ok(answer)
+}
+
 /// The whole report, each line feed as `%0a`, and the status.
 pub fn report<R: Threads + Sync>(
     rt: &R,
