@@ -1,4 +1,5 @@
 pub mod Pairing
 pub mod Report
 pub mod Serving
+pub mod Spelling
 pub mod Rightness

@@ -8,6 +8,7 @@ mod law;
 mod report;
 mod serve;
 mod served;
+mod spelling;
 
 pub use law::{good_answers_are_replies, good_answers_are_right, proved_sessions_are_valid};
 pub use report::print_report;

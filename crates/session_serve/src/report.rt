@@ -7,8 +7,10 @@ ghost use Rattle.goal_text.specs.GoalsRead.{AreReadable};
 ghost use Rattle.goal_serve.specs.Line.{lines_text};
 ghost use Rattle.session_serve.specs.Pairing.{OneEach};
 ghost use Rattle.session_serve.specs.Report.{IsReply, AreReplies, goal_lines, goals_lines, session_lines, sessions_lines, no_cache, report_text};
+ghost use Rattle.session_serve.specs.Spelling.{AreSpelled};
 
 use crate::served::Served;
+use crate::spelling::all_spelled;
 use goal_ast::Mode;
 use goal_serve::{
     Answer, push_answer, push_asked, push_begin, push_cache, push_end, push_ill_sorted,
@@ -97,7 +99,8 @@ fn push_sessions(
 }
 
 /// The report on the sessions of a goal file and the answers to their goals. `Err` where there is no memory; that is
-/// also the answer where a clause has 2^32 rows or more.
+/// also the answer where an answer has no spelling that is read again: where a clause has 2^32 rows or more, or a
+/// certificate is more than 4,096 deep or has 2^32 members or more in an enumeration.
 pub fn print_report<D>(
     alloc: Global,
     sessions: &[RawSession],
@@ -105,8 +108,12 @@ pub fn print_report<D>(
 ) -> Result<Vec<u8>, AllocError>
     requires readable { AreReadable sessions.now }
     requires replies { AreReplies sessions.now served.now.answers }
-    ensures { IfOk result (λ text. text.items ≡ report_text sessions.now served.now.answers no_cache no_cache) }
+    ensures text { IfOk result (λ text. text.items ≡ report_text sessions.now served.now.answers no_cache no_cache) }
+    ensures spelled { OnOk result (AreSpelled served.now.answers) }
 {
+    if !all_spelled(served.answers.as_slice()) {
+        return Err(AllocError);
+    }
     let mut out = Vec::new(alloc);
     push_begin(&mut out)?;
     push_sessions(alloc, &mut out, sessions, served.answers.as_slice())?;
