@@ -1,0 +1,9 @@
+pub mod PlaceInListLaws
+pub mod LineLaws
+pub mod BlockLaws
+pub mod GoalLaws
+pub mod SessionLaws
+pub mod RightLaws
+pub mod VerdictLaws
+pub mod NameLaws
+pub mod ServedLaws

@@ -1,0 +1,4 @@
+pub mod Goodness
+pub mod Rightness
+pub mod Served
+pub mod machine
