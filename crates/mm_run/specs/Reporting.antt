@@ -17,6 +17,10 @@ use Rattle.goal_serve.specs.declared.answers.Answer.{Answer}
 use Rattle.session_serve.specs.Rightness.{AreRight, AreValid}
 use Rattle.session_serve.specs.Serving.{MeetSessions, AreProved}
 use Rattle.session_serve.specs.Report.{report_text, no_cache}
+use Rattle.report_text.specs.Report.{Report}
+use Rattle.report_check.specs.declared.types.Recheck.TheVariants as verdicts
+use Rattle.report_check.specs.Goodness.{HasGoodGoals, Spell, Rechecks}
+use Rattle.report_check.specs.Rightness.{IsRightReport}
 
 -- the bytes spell rows and a certificate with this verdict
 abbrev pub HasVerdict : List ℕ → Verdict → Type 0
@@ -35,7 +39,7 @@ abbrev pub IsNoGoalFile : List ℕ → Type 0
 IsNoGoalFile bytes = (sessions : List RawSession) → IsGoalFile bytes sessions → ⊥
 
 -- the report of the sessions of a goal file, each goal with a good answer, and whether each is proved; what the answers
--- say of the goals is right
+-- say of the goals is right, and the report is accepted when it is checked
 pub record IsReportOn (turns : ℕ) (bytes text : List ℕ) (proved : Bool) : Type 0 where
   pub sessions : List RawSession
   pub file : IsGoalFile bytes sessions
@@ -44,7 +48,18 @@ pub record IsReportOn (turns : ℕ) (bytes text : List ℕ) (proved : Bool) : Ty
   pub report : text ≡ report_text sessions answers no_cache no_cache
   pub each : (proved ≡ true) ↔ AreProved answers
   pub right : AreRight sessions answers
+  pub accepted : Rechecks text verdicts.Accepted
 
 -- the bytes are a goal file, and each of its goals holds for all values
 abbrev pub IsValidFile : List ℕ → Type 0
 IsValidFile bytes = (sessions : List RawSession) × IsGoalFile bytes sessions × AreValid sessions
+
+-- the bytes are a report whose goals are good, so each proved one holds for all values, and each refuted one is false at
+-- its assignment
+pub record IsRightText (bytes : List ℕ) (r : Report) : Type 0 where
+  pub spell : Spell bytes r
+  pub good : HasGoodGoals r
+  pub right : IsRightReport r
+
+abbrev pub IsRightReportText : List ℕ → Type 0
+IsRightReportText bytes = (r : Report) × IsRightText bytes r

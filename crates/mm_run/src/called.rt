@@ -18,6 +18,7 @@ use cert_check::check;
 use cert_text::{CheckText, read_check};
 use goal_text::{RawSession, TextFail, read_file, readable};
 use mm_io::{Disk, Gate, ReadFail, Source, read_all};
+use report_check::{Recheck, recheck, served_reports_are_accepted};
 use session_serve::{
     Caches, Served, all_proved, good_answers_are_replies, good_answers_are_right, print_report,
     serve_all,
@@ -80,6 +81,7 @@ fn limit_of(command: Command) -> u64
     match command {
         Command::Check => 1 << 28,
         Command::Prove(_) => 1 << 24,
+        Command::Recheck => 1 << 28,
     }
 }
 
@@ -102,6 +104,10 @@ fn on_input<R: Threads + Sync, D: Disk + Send, G: Gate + Sync>(
             caches,
         },
         Command::Prove(turns) => on_goals(rt, alloc, bytes, turns, caches, gate),
+        Command::Recheck => Called {
+            ending: on_report(alloc, bytes),
+            caches,
+        },
     }
 }
 
@@ -117,6 +123,19 @@ fn on_check(alloc: Global, bytes: &[u8]) -> Result<Ending, RunFail>
         },
         Err(CheckText::Bad { at }) => Ok(Ending::Bad(at)),
         Err(CheckText::NoMemory) => Err(RunFail::NoMemory),
+    }
+}
+
+// What the bytes of a report call for.
+fn on_report(alloc: Global, bytes: &[u8]) -> Result<Ending, RunFail>
+    ensures due { IfOk result (InputCallsFor Command.Recheck bytes.now) }
+    ensures no_fault { IsErrOf result RunFail.Device → ⊥ }
+{
+    match recheck(alloc, bytes) {
+        Ok(Recheck::Accepted) => Ok(Ending::AllGood),
+        Ok(Recheck::Rejected { session, goal }) => Ok(Ending::NotGood { session, goal }),
+        Ok(Recheck::Bad { at }) => Ok(Ending::Bad(at)),
+        Err(_) => Err(RunFail::NoMemory),
     }
 }
 
@@ -145,6 +164,7 @@ fn on_goals<R: Threads + Sync, D: Disk + Send, G: Gate + Sync>(
         Ok(served) => {
             good_answers_are_replies();
             good_answers_are_right();
+            served_reports_are_accepted();
             let ending = reported(alloc, sessions.as_slice(), &served);
             Called {
                 ending,

@@ -1,5 +1,5 @@
 ghost use Rattle.std.specs.Prelude.{◌≡◌, ◌++◌, IfOk, OnOk, decimal};
-ghost use Rattle.mm_run.specs.Ending.{text_of, status_of, placed};
+ghost use Rattle.mm_run.specs.Ending.{text_of, status_of, placed, rejected};
 
 use cert_check::Verdict;
 use std::alloc::{AllocError, Global};
@@ -21,6 +21,10 @@ pub enum Ending {
     Checked(Verdict),
     /// The report on the goals, and whether each of them is proved.
     Reported(Vec<u8>, bool),
+    /// Each goal of the report that was read is good.
+    AllGood,
+    /// The first goal that isn't good of the report that was read: the number of its session, and its own there.
+    NotGood { session: u64, goal: u64 },
 }
 
 /// The text that is written, each line with its line feed.
@@ -28,7 +32,7 @@ pub fn text(alloc: Global, ending: Ending) -> Result<Vec<u8>, AllocError>
     ensures { IfOk result (λ text. text.items ≡ text_of ending) }
 {
     match ending {
-        Ending::Usage => Vec::from_slice(alloc, b"usage: mm check | prove [--turns N]\n"),
+        Ending::Usage => Vec::from_slice(alloc, b"usage: mm check | prove [--turns N] | recheck\n"),
         Ending::TooLong => Vec::from_slice(alloc, b"too long\n"),
         Ending::Bad(at) => placed(alloc, b"bad ", at),
         Ending::Long(at) => placed(alloc, b"long ", at),
@@ -37,6 +41,8 @@ pub fn text(alloc: Global, ending: Ending) -> Result<Vec<u8>, AllocError>
         Ending::Checked(Verdict::Rejected) => Vec::from_slice(alloc, b"rejected\n"),
         Ending::Checked(Verdict::Size) => Vec::from_slice(alloc, b"size\n"),
         Ending::Reported(report, _) => Ok(report),
+        Ending::AllGood => Vec::from_slice(alloc, b"accepted\n"),
+        Ending::NotGood { session, goal } => rejected(alloc, session, goal),
     }
 }
 
@@ -46,6 +52,18 @@ fn placed(alloc: Global, word: &[u8], at: u64) -> Result<Vec<u8>, AllocError>
 {
     let mut line = Vec::from_slice(alloc, word)?;
     push_number(&mut line, at)?;
+    line.push(b'\n')?;
+    Ok(line)
+}
+
+// The goal that isn't good, as a line.
+fn rejected(alloc: Global, session: u64, goal: u64) -> Result<Vec<u8>, AllocError>
+    ensures { IfOk result (λ line. line.items ≡ rejected session goal) }
+{
+    let mut line = Vec::from_slice(alloc, b"rejected ")?;
+    push_number(&mut line, session)?;
+    line.push(b' ')?;
+    push_number(&mut line, goal)?;
     line.push(b'\n')?;
     Ok(line)
 }
@@ -64,7 +82,9 @@ pub fn status(ending: &Ending) -> u8
 {
     match ending {
         Ending::Usage | Ending::TooLong | Ending::Bad(_) | Ending::Long(_) | Ending::Many(_) => 2,
-        Ending::Checked(Verdict::Accepted) | Ending::Reported(_, true) => 0,
-        Ending::Checked(Verdict::Rejected | Verdict::Size) | Ending::Reported(_, false) => 1,
+        Ending::Checked(Verdict::Accepted) | Ending::Reported(_, true) | Ending::AllGood => 0,
+        Ending::Checked(Verdict::Rejected | Verdict::Size)
+        | Ending::Reported(_, false)
+        | Ending::NotGood { .. } => 1,
     }
 }

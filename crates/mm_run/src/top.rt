@@ -1,16 +1,17 @@
-ghost use Rattle.std.specs.Prelude.{◌≡◌, ◌+◌, ◌<◌, ◌≤◌, ◌⊎◌, [], map, length, IfSome, IsSomeAnd, string_bytes};
+ghost use Rattle.std.specs.Prelude.{◌≡◌, ◌+◌, ◌<◌, ◌≤◌, ◌⊎◌, ℕ, [], map, length, IfSome, IsSomeAnd, string_bytes};
 ghost use Rattle.std.specs.Io.KnownBytes.{Appends, IsAtEnd};
 ghost use Rattle.mm_io.specs.Cause.{HasRisen};
 ghost use Rattle.mm_io.specs.Reading.{TakesAtMost};
 ghost use Rattle.mm_io.specs.Writing.{AppendsPrefix};
 ghost use Rattle.mm_run.specs.declared.words.Command.{Command as ACommand};
 ghost use Rattle.mm_run.specs.Words.{Asks, input_limit};
-ghost use Rattle.mm_run.specs.Ending.{Ends, WritesPrefix, IsWhole, IsSettledBy, IsRefusal, IsEndingStatus, text_of, status_of};
+ghost use Rattle.mm_run.specs.Ending.{Ends, WritesPrefix, WritesAccepted, IsWhole, IsSettledBy, IsRefusal, IsEndingStatus, text_of, status_of};
 
 use crate::called::{Called, called_for};
 use crate::ending::{Ending, status, text};
 use crate::fail::RunFail;
 use mm_io::{Disk, Gate, Sink, Source, write_all};
+use report_check::good_goals_are_right;
 use session_serve::{Caches, proved_sessions_are_valid};
 use std::alloc::Global;
 use std::thread::Threads;
@@ -29,9 +30,10 @@ pub struct Ended<D> {
 
 /// Runs the program. With the one word `check` it reads rows and a certificate from `goals`, and writes the verdict to
 /// `out`. With `prove`, or `prove --turns N`, it reads a goal file and writes the report on it: for each goal the
-/// certificates of its clauses, an assignment that makes it false, or why neither is given. Status 0 is for `accepted`,
-/// or a report on which each goal is proved, 1 for the other verdicts and reports, 2 for a refusal, 3 for want of memory,
-/// and 5 for a device that failed.
+/// certificates of its clauses, an assignment that makes it false, or why neither is given. With `recheck` it reads such a
+/// report, and writes `accepted`, or `rejected` with the numbers of the first session and goal that isn't good. Status 0
+/// is for `accepted`, or a report on which each goal is proved, 1 for the other verdicts and reports, 2 for a refusal, 3 for
+/// want of memory, and 5 for a device that failed.
 pub fn run<R: Threads + Sync, S: Source, K: Sink, D: Disk + Send, G: Gate + Sync>(
     rt: &R,
     alloc: Global,
@@ -43,8 +45,11 @@ pub fn run<R: Threads + Sync, S: Source, K: Sink, D: Disk + Send, G: Gate + Sync
 ) -> Ended<D>
     // The whole text was written that the words and the bytes call for, and the status is that of the text.
     ensures ended { IsWhole result.status → Ends (map string_bytes words.now) (S.left goals.old) (K.written out.old) (K.written out.new) result.status }
-    // Status 0 comes only where no integer point solves the rows, or each goal of the file holds for all values.
+    // Status 0 comes only where no integer point solves the rows, or each goal of the file holds for all values, or each
+    // goal of the report that it says is proved does, and each that it says is refuted is false at its assignment.
     ensures sound { result.status ≡ 0 → (c : ACommand) × Asks (map string_bytes words.now) c × IfSome (S.left goals.old) (IsSettledBy c) }
+    // The report that is written on goals is accepted when it is checked.
+    ensures accepted { result.status < 2 → (turns : ℕ) → Asks (map string_bytes words.now) (ACommand.Prove turns) → IfSome (S.left goals.old) (λ bytes. WritesAccepted (K.written out.old) (K.written out.new)) }
     // A refusal comes wherever it should.
     ensures refused { IsWhole result.status → IsRefusal (map string_bytes words.now) (S.left goals.old) → result.status ≡ 2 }
     // A verdict or a report is written after the input was read to its end; so is a place, where the input is known not
@@ -67,6 +72,7 @@ pub fn run<R: Threads + Sync, S: Source, K: Sink, D: Disk + Send, G: Gate + Sync
     ensures sink_kept { K.faults out.old ≤ K.faults out.new }
 {
     proved_sessions_are_valid();
+    good_goals_are_right();
     let Called { ending, caches } = called_for(rt, alloc, words, goals, caches, gate);
     let status = match ending {
         Ok(ending) => finish(alloc, out, ending),

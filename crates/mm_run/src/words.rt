@@ -11,6 +11,8 @@ pub enum Command {
     Check,
     /// Answer the goals of a file, with so many turns for each clause.
     Prove(u32),
+    /// Check a report.
+    Recheck,
 }
 
 /// The turns where the words name none.
@@ -38,6 +40,7 @@ fn command_of_one(word: &str) -> Option<Command>
     match word {
         "check" => Some(Command::Check),
         "prove" => Some(Command::Prove(TURNS)),
+        "recheck" => Some(Command::Recheck),
         _ => None,
     }
 }

@@ -56,7 +56,7 @@ fn other_words_get_the_usage_line(rt: HostRuntime) -> Result<(), Fail> {
         let left = outcome(&rt, alloc, words, good, &[], &[])?;
         assert_eq!(rt;
             left.written.as_slice(),
-            b"usage: mm check | prove [--turns N]\n".as_slice()
+            b"usage: mm check | prove [--turns N] | recheck\n".as_slice()
         );
         assert_eq!(rt; left.status, 2);
     }

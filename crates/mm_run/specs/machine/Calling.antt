@@ -6,6 +6,7 @@ use Rattle.goal_sort.specs.declared.raw.RawSession.{RawSession}
 use Rattle.goal_serve.specs.declared.answers.Answer.{Answer}
 use Rattle.session_serve.specs.Serving.{AreProved}
 use Rattle.session_serve.specs.Report.{report_text, no_cache}
+use Rattle.session_serve.specs.Spelling.{AreSpelled}
 use Rattle.mm_run.specs.declared.ending.Ending.{Ending}
 use Rattle.mm_run.specs.declared.ending.Ending.TheVariants.{Bad, Long, Many, Reported}
 use Rattle.mm_run.specs.declared.fail.RunFail.{RunFail}
@@ -17,7 +18,7 @@ refusal_of (fails.Long at) = Ok (Long at)
 refusal_of (fails.Many at) = Ok (Many at)
 refusal_of fails.NoMemory = Err runs.NoMemory
 
--- the ending is the report on the answers, and tells whether each is proved
+-- the ending is the report on the answers, which are spelled so that they are read again, and tells whether each is proved
 abbrev pub Tells : List RawSession → List (List Answer) → Ending → Type 0
-Tells sessions answers (Reported text proved) = (text.items ≡ report_text sessions answers no_cache no_cache) × ((proved ≡ true) ↔ AreProved answers)
+Tells sessions answers (Reported text proved) = (text.items ≡ report_text sessions answers no_cache no_cache) × ((proved ≡ true) ↔ AreProved answers) × AreSpelled answers
 Tells sessions answers ending = ⊥
